@@ -33,7 +33,7 @@ pub(crate) fn push_hex(line: &mut Line, count: u32, value: u32)
     ensures len { array_vec_len line.new ≡ array_vec_len line.old + count }
 {
     for place in (0..count).rev() {
-        let digit = value >> (4 * place) & 0xF;
+        let digit = (value >> (4 * place)) % 16;
         line.push(DIGITS[digit as usize]);
     }
 }
