@@ -5,6 +5,8 @@ mod digits;
 mod items;
 mod levels;
 mod lines;
+#[cfg(test)]
+mod tests;
 
 pub use items::TraceItem;
 pub use levels::Level;
