@@ -1,10 +1,10 @@
 //! The lines of a trace: what one tick of the chip shows, each item as the text of its line.
 #![tactic(auto)]
 
-mod digits;
 mod items;
 mod levels;
 mod lines;
+mod pieces;
 #[cfg(test)]
 mod tests;
 

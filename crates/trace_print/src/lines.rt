@@ -3,9 +3,9 @@ ghost use Rattle.arrayvec.specs.ArrayVec.{array_vec_len};
 ghost use Rattle.trace_print.specs.Levels.{letters_of};
 ghost use Rattle.trace_print.specs.Lines.{IsPrintable, line_of, text_of};
 
-use crate::digits::{push_decimal, push_hex, push_text};
 use crate::items::TraceItem;
 use crate::levels::Level;
+use crate::pieces::{push_decimal, push_hex, push_text};
 use arrayvec::ArrayVec;
 
 /// A line of a trace, with its line feed.

@@ -1,4 +1,4 @@
-use Rattle.std.proofs.Common.{◌≡◌, ◌++◌, map, length}
+use Rattle.std.proofs.Common.{◌≡◌, ◌++◌, map}
 use Rattle.trace_print.specs.Levels.{letter_of}
 use Rattle.trace_print.proofs.lines.push_levels.Given as goal
 

@@ -1,7 +1,7 @@
 use Rattle.std.proofs.Common.{◌-◌, arith, append_assoc}
 use Rattle.std.proofs.lemmas.Grind.{common_steps}
 use Rattle.trace_print.proofs.HexDigits.{hex_digits-zero, hex_digits-next}
-use Rattle.trace_print.proofs.digits.push_hex.Goals as goal
+use Rattle.trace_print.proofs.pieces.push_hex.Goals as goal
 
 pub loop-place-init : goal.loop-place-init
 loop-place-init c = grind (arith, common_steps, hex_digits-zero)

@@ -1,7 +1,7 @@
 use Rattle.std.proofs.Common.{◌≡◌, ◌+◌, ◌-◌, ◌++◌, ◌/◌, ◌^◌, ◌*◌}
 use Rattle.arrayvec.specs.ArrayVec.{array_vec_len}
 use Rattle.trace_print.specs.Digits.{hex_digits}
-use Rattle.trace_print.proofs.digits.push_hex.Given as goal
+use Rattle.trace_print.proofs.pieces.push_hex.Given as goal
 
 -- the digits above the place are written
 abbrev pub invariant-loop-place : goal.invariant-loop-place
