@@ -96,6 +96,7 @@ impl<'a> LoadSegment<'a> {
     }
 
     /// Writes the bytes that lie in FRAM into a memory by address.
+    #[tactic(auto, using(crate::proofs::FramLemmas::is_fram_tells))]
     pub fn load(&self, memory: &mut [u8])
         requires { length memory.old ≡ MAIN_END }
         ensures fram { (at : ℕ) → IsTrue (is_fram at) → slice_index memory.new at ≡ unwrap_or (byte_in self.now at) (slice_index memory.old at) }
