@@ -5,6 +5,8 @@ mod headers;
 mod images;
 mod refusals;
 mod segments;
+#[cfg(test)]
+mod tests;
 
 pub use images::{Image, read_image};
 pub use refusals::ImageRefused;
