@@ -1,0 +1,10 @@
+//! The outside of the program: where its files come from and where its text goes, in memory and real.
+#![tactic(auto)]
+
+mod memory;
+mod shelves;
+mod sinks;
+
+pub use memory::NoMemory;
+pub use shelves::{Found, Got, Shelf};
+pub use sinks::{Sink, Took};
