@@ -4,9 +4,11 @@
 mod memory;
 mod shelves;
 mod sinks;
+mod whole_file;
 mod whole_text;
 
 pub use memory::NoMemory;
 pub use shelves::{Found, Got, Shelf};
 pub use sinks::{Sink, Took};
+pub use whole_file::{FileRefused, read_file};
 pub use whole_text::{PutFailed, put_all};
