@@ -1,10 +1,9 @@
 -- Reading one file of a shelf: its find stands at the end of the list, at the bytes that were read.
-use Rattle.std.proofs.Common.{◌≡◌, ℕ, ◌+◌, ◌-◌, ◌^◌, ◌<◌, ◌≤◌, Bool, true, false, IsTrue, List, [], ◌∷◌, ◌++◌, map, length, take, drop, get_or, Option, Some, None, option_map, IfSome, IsSome, refl, sym, ◌∙◌, ap, arith, append_assoc, append-nil, length-append, length-take}
+use Rattle.std.proofs.Common.{◌≡◌, ℕ, ◌+◌, ◌^◌, ◌<◌, ◌≤◌, true, false, List, [], ◌∷◌, ◌++◌, map, length, take, drop, Option, Some, None, option_map, IfSome, IsSome, refl, sym, ◌∙◌, ap, arith, append-nil, length-append, length-take}
 use Rattle.std.proofs.lemmas.Bool.Decides.{nat_tests}
-use Rattle.std.proofs.lemmas.Grind.{common_steps}
 use Rattle.std.proofs.lemmas.List.{take-append-drop, length-take-le}
 use Rattle.std.proofs.Math.Seq.{take-add, take-append_seam, drop-append_seam}
-use Rattle.bench_io.specs.Shelves.{Find, Files, is_given, find_of, moved, rest_at, rest_of, places_since}
+use Rattle.bench_io.specs.Shelves.{Find, Files, is_given, find_of, moved, rest_of, places_since}
 
 pub is_given-last : (finds : List Find) (find : Find) → is_given find.id (finds ++ find ∷ []) ≡ true
 is_given-last [] find = grind (arith, nat_tests)

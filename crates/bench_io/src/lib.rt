@@ -1,6 +1,7 @@
 //! The outside of the program: where its files come from and where its text goes, in memory and real.
 #![tactic(auto)]
 
+mod find_list;
 mod memory;
 mod shelves;
 mod sinks;

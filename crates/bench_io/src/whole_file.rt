@@ -37,7 +37,12 @@ impl fmt::Display for FileRefused {
 impl Error for FileRefused {}
 
 /// Reads a whole file of at most `limit` bytes. No more than one byte past the limit is read.
-pub fn read_file<S: Shelf>(alloc: Global, shelf: &mut S, name: &str, limit: usize) -> Result<Vec<u8>, FileRefused>
+pub fn read_file<S: Shelf>(
+    alloc: Global,
+    shelf: &mut S,
+    name: &str,
+    limit: usize,
+) -> Result<Vec<u8>, FileRefused>
     requires { limit < 2 ^ 32 }
     ensures files { S.files shelf.new ≡ S.files shelf.old }
     ensures later { S.faults shelf.old ≤ S.faults shelf.new }
