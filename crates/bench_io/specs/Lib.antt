@@ -2,3 +2,4 @@ pub mod Faults
 pub mod Shelves
 pub mod Sinks
 pub mod FindLists
+pub mod MemSinks

@@ -2,12 +2,14 @@
 #![tactic(auto)]
 
 mod find_list;
+mod mem_sink;
 mod memory;
 mod shelves;
 mod sinks;
 mod whole_file;
 mod whole_text;
 
+pub use mem_sink::MemSink;
 pub use memory::NoMemory;
 pub use shelves::{Found, Got, Shelf};
 pub use sinks::{Sink, Took};
