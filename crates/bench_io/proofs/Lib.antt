@@ -1,0 +1,4 @@
+pub mod Finds
+pub mod Numbers
+pub mod Places
+pub mod Writing

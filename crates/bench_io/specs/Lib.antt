@@ -1,0 +1,5 @@
+pub mod Faults
+pub mod Shelves
+pub mod Sinks
+pub mod FindLists
+pub mod MemSinks

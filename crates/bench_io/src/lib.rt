@@ -1,0 +1,17 @@
+//! The outside of the program: where its files come from and where its text goes, in memory and real.
+#![tactic(auto)]
+
+mod find_list;
+mod mem_sink;
+mod memory;
+mod shelves;
+mod sinks;
+mod whole_file;
+mod whole_text;
+
+pub use mem_sink::MemSink;
+pub use memory::NoMemory;
+pub use shelves::{Found, Got, Shelf};
+pub use sinks::{Sink, Took};
+pub use whole_file::{FileRefused, read_file};
+pub use whole_text::{PutFailed, put_all};
