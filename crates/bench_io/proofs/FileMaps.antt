@@ -26,7 +26,7 @@ file_named-entries (entry ∷ entries) name = rw is_eq-slice_cmp (first_found _ 
 module _ (old new : BTreeMap (String Global) (Vec ℕ Global)) (key : String Global) (bytes : Vec ℕ Global) (updates : UpdatesBy string_cmp (string_cmp key) old new (Some bytes)) where
   -- the name that was put stands for its bytes
   pub file_named-put : (name : List ℕ) → string_bytes key ≡ name → file_named (named_files new.entries) name ≡ Some bytes.items
-  file_named-put name named = 
+  file_named-put name named =
       let found : get_by_text new name ≡ Some bytes = rw (← named) updates.1 in
       file_named-entries new.entries name ∙ ap bytes_of found
 

@@ -10,6 +10,8 @@ mod memory;
 mod shelves;
 mod sinks;
 mod std_sink;
+#[cfg(test)]
+mod tests;
 mod whole_file;
 mod whole_text;
 

@@ -27,11 +27,11 @@ impl Model for MemShelf {
     ghost Value = { MemShelfState };
 
     ghost view = { λ shelf. record {
-        files = shelf.files;
-        finds = shelf.finds;
-        failing = shelf.failing.items;
-        calls = shelf.calls;
-        faults = shelf.faults
+      files = shelf.files;
+      finds = shelf.finds;
+      failing = shelf.failing.items;
+      calls = shelf.calls;
+      faults = shelf.faults;
     } };
 }
 
@@ -87,14 +87,18 @@ impl Shelf for MemShelf {
             ⊎ (length self.old.finds ≡ MOST_FINDS)) }
 
         ensures here { IfHere result (λ id. self.new ≡ record self.old {
-            finds = self.old.finds ++ record { id = id; name = name.now; place = 0 } ∷ []; calls = raised self.old.calls }) }
+          finds = self.old.finds ++ record { id = id; name = name.now; place = 0 } ∷ [];
+          calls = raised self.old.calls;
+        }) }
         ensures new { IfHere result (λ id. is_given id self.old.finds ≡ false) }
         ensures told { IfHere result (λ id. IsSome (file_named self.old.files name.now)) }
         ensures absent { IfAbsent result (file_named self.old.files name.now ≡ None) }
         ensures unmoved { UnlessHere result (UnlessFailed result (self.new ≡ record self.old { calls = raised self.old.calls })) }
 
         ensures failed { IfFailed result (self.new ≡ record self.old {
-            calls = raised self.old.calls; faults = raised self.old.faults }) }
+          calls = raised self.old.calls;
+          faults = raised self.old.faults;
+        }) }
         ensures later { self.old.faults ≤ self.new.faults }
     {
         self.calls = self.calls.saturating_add(1);
@@ -131,10 +135,14 @@ impl Shelf for MemShelf {
         ensures end { IfCount result (λ n. n ≡ 0 → 0 < length buf.old →
             IfSome (rest_at (file_named self.old.files) (find_of id self.old.finds)) (λ rest. rest ≡ [])) }
         ensures moved { IfCount result (λ n. self.new ≡ record self.old {
-            finds = moved id n self.old.finds; calls = raised self.old.calls }) }
+          finds = moved id n self.old.finds;
+          calls = raised self.old.calls;
+        }) }
 
         ensures failed { IfNoBytes result (self.new ≡ record self.old {
-            calls = raised self.old.calls; faults = raised self.old.faults }) }
+          calls = raised self.old.calls;
+          faults = raised self.old.faults;
+        }) }
         ensures later { self.old.faults ≤ self.new.faults }
     {
         self.calls = self.calls.saturating_add(1);
