@@ -1,3 +1,4 @@
+pub mod FileMaps
 pub mod Finds
 pub mod Numbers
 pub mod Places

@@ -1,4 +1,4 @@
-ghost use Rattle.std.specs.Prelude.{◌≡◌, ◌<◌, ◌↔◌, [], ◌∷◌, ◌++◌, length, Some, false, string_bytes, IsTrue, IfOk, OnErr};
+ghost use Rattle.std.specs.Prelude.{◌≡◌, ◌<◌, ◌≤◌, ◌↔◌, [], ◌∷◌, ◌++◌, length, Some, false, string_bytes, IsTrue, IfOk, OnErr};
 ghost use Rattle.bench_io.specs.Shelves.{is_given, find_of, moved};
 
 use crate::memory::NoMemory;
@@ -45,7 +45,8 @@ impl FindList {
 
     /// Says whether every id was given.
     pub fn is_full(&self) -> bool
-        ensures { IsTrue result ↔ (length self.now ≡ MOST_FINDS) }
+        ensures full { IsTrue result ↔ (length self.now ≡ MOST_FINDS) }
+        ensures within { length self.now ≤ MOST_FINDS }
     {
         self.entries.len() == MOST_FINDS as usize
     }

@@ -24,11 +24,11 @@ impl Model for MemSink {
     ghost Value = { MemSinkState };
 
     ghost view = { λ sink. record {
-        bytes = sink.bytes.items;
-        room = sink.room;
-        failing = sink.failing.items;
-        calls = sink.calls;
-        faults = sink.faults
+      bytes = sink.bytes.items;
+      room = sink.room;
+      failing = sink.failing.items;
+      calls = sink.calls;
+      faults = sink.faults;
     } };
 
     ghost invariant = { λ sink. (vec_len sink.bytes ≤ sink.room) × (sink.room ≤ vec_capacity sink.bytes) };
@@ -84,10 +84,14 @@ impl Sink for MemSink {
         ensures most { IfTaken result (λ n. n ≡ min (length piece.now) (self.old.room - length self.old.bytes)) }
         ensures some { IfTaken result (λ n. n ≡ 0 → length piece.now ≡ 0) }
         ensures taken { IfTaken result (λ n. self.new ≡ record self.old {
-            bytes = self.old.bytes ++ take n piece.now; calls = raised self.old.calls }) }
+          bytes = self.old.bytes ++ take n piece.now;
+          calls = raised self.old.calls;
+        }) }
 
         ensures refused { IfRefused result (self.new ≡ record self.old {
-            calls = raised self.old.calls; faults = raised self.old.faults }) }
+          calls = raised self.old.calls;
+          faults = raised self.old.faults;
+        }) }
         ensures later { self.old.faults ≤ self.new.faults }
     {
         self.calls = self.calls.saturating_add(1);
