@@ -4,7 +4,7 @@ use Rattle.std.specs.Prelude.{ℕ, ◌+◌, ◌*◌, Bool, ◌==◌, nat_eq, Lis
 use Rattle.std.specs.List.{starts_with}
 use Rattle.std.specs.Simd.{first_chunks}
 use Rattle.byteorder.specs.Endian.{little_number}
-use Rattle.elf_image.specs.declared.headers.Header.{Header}
+use Rattle.elf_image.specs.declared.headers.ProgramHeader.{ProgramHeader}
 
 unfoldable pub half : ℕ → List ℕ → ℕ
 half offset bytes = little_number 2 (drop offset bytes)
@@ -50,17 +50,17 @@ abbrev pub em_msp430 : ℕ
 em_msp430 = 105
 
 -- a program header in its 32 bytes
-unfoldable pub header_of : List ℕ → Header
+unfoldable pub header_of : List ℕ → ProgramHeader
 header_of bytes = record { p_type = word 0 bytes; p_offset = word 4 bytes; p_paddr = word 12 bytes; p_filesz = word 16 bytes }
 
 -- the place behind the table of program headers
 abbrev pub table_end : List ℕ → ℕ
 table_end file = e_phoff file + program_header_size * e_phnum file
 
--- the program headers, in their order
-unfoldable pub header_table : List ℕ → List Header
+-- the program headers in their order: so many parts of 32 bytes, one behind the other
+unfoldable pub header_table : List ℕ → List ProgramHeader
 header_table file = map header_of (first_chunks program_header_size (e_phnum file) (drop (e_phoff file) file))
 
 -- a header whose bytes are loaded
-abbrev pub is_load : Header → Bool
+abbrev pub is_load : ProgramHeader → Bool
 is_load header = header.p_type == 1

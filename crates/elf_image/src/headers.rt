@@ -33,7 +33,7 @@ pub struct FileHeader {
 ///
 /// A field that is not here decides nothing: the virtual address, the size in memory, the flags.
 #[derive(Clone, Copy, Debug, PartialEq, Eq)]
-pub struct Header {
+pub struct ProgramHeader {
     /// What the header describes. 1 is a segment that is loaded.
     pub p_type: u32,
     /// The place of the segment's bytes in the file.
@@ -90,7 +90,7 @@ impl FileHeader {
     }
 }
 
-impl Header {
+impl ProgramHeader {
     ghost use Rattle.elf_image.specs.Elf.{header_of, is_load};
     ghost use Rattle.elf_image.specs.Image.{leaves};
 
@@ -99,7 +99,7 @@ impl Header {
     pub fn read(bytes: &[u8; PROGRAM_HEADER_SIZE]) -> Self
         ensures { result ≡ header_of bytes.now }
     {
-        Header {
+        ProgramHeader {
             p_type: read_word(bytes, 0),
             p_offset: read_word(bytes, 4),
             p_paddr: read_word(bytes, 12),

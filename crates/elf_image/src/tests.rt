@@ -115,6 +115,27 @@ fn reads_or_refuses(rt: HostRuntime) {
     }
 }
 
+#[test]
+fn says_why(rt: HostRuntime) -> Result<(), Fail> {
+    for (refused, want) in [
+        (
+            ImageRefused::Short(52, 0),
+            "the file has 0 bytes and needs 52",
+        ),
+        (ImageRefused::NotElf, "not a 32-bit little-endian ELF file"),
+        (ImageRefused::NotMsp430(62), "machine 62 is not the MSP430"),
+        (ImageRefused::NotExec(3), "type 3 is not an executable"),
+        (ImageRefused::BadTable(33), "a program header of 33 bytes"),
+        (
+            ImageRefused::BadSegment(0),
+            "program header 0 names bytes behind the end of the file",
+        ),
+    ] {
+        assert_eq!(rt; format!(in rt.alloc(); "{refused}")?.as_str(), want);
+    }
+    Ok(())
+}
+
 /// The ELF header of a file with so many program headers.
 fn begin_file(alloc: Global, count: u16) -> Result<Vec<u8>, AllocError> {
     let mut file = Vec::new(alloc);
