@@ -10,6 +10,8 @@ use std::{env, io};
 mod commands;
 mod runs;
 mod statuses;
+#[cfg(test)]
+mod tests;
 mod trace;
 
 pub use commands::capsule;

@@ -11,7 +11,7 @@ use Rattle.chip_words.specs.Script.{Ran, Return, run}
 use Rattle.chip_words.proofs.Runs.{run_then}
 use Rattle.chip_core.specs.declared.instructions.Operation.{Operation}
 use Rattle.chip_core.specs.declared.instructions.Form.TheVariants.{Store}
-use Rattle.chip_core.specs.Instruction.{Stepped, stepped, storing, execution}
+use Rattle.chip_core.specs.Instruction.{stepped, storing, execution}
 
 -- the data accesses of an operation run on the bus behind the fetch of its address
 abbrev pub run_of_store : Agent → Operation → Size → ℕ → ℕ → BusPart → Ran ℕ

@@ -1,5 +1,5 @@
 -- The memory that is loaded from an image.
-use Rattle.std.proofs.Common.{◌≡◌, ℕ, zero, suc, ◌<◌, ◌∙◌, Bool, true, false, refl, sym, List, length, get_or, take, drop, ◌++◌, ap, replicate, arith}
+use Rattle.std.proofs.Common.{◌≡◌, ℕ, zero, suc, ◌<◌, ◌∙◌, Bool, true, false, refl, sym, List, length, take, drop, ◌++◌, ap, replicate, arith}
 use Rattle.std.specs.Prelude.{IsTrue, slice_index, map, if◌then◌else◌}
 use Rattle.std.specs.List.{range_with_len}
 use Rattle.std.proofs.lemmas.List.{same_lists, length-replicate}

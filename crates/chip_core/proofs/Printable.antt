@@ -1,5 +1,5 @@
 -- Each line of a tick has room for its values.
-use Rattle.std.proofs.Common.{◌≡◌, ℕ, zero, suc, ◌<◌, ◌≤◌, Bool, true, false, List, [], ◌∷◌, ◌++◌, length, arith}
+use Rattle.std.proofs.Common.{ℕ, zero, suc, ◌≤◌, Bool, true, false, List, [], ◌∷◌, ◌++◌, arith}
 use Rattle.std.specs.Prelude.{All, Option, Some, None, if◌then◌else◌}
 use Rattle.std.proofs.lemmas.List.Elements.{All-append}
 use Rattle.trace_print.specs.declared.items.TraceItem.{TraceItem}

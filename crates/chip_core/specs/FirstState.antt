@@ -1,5 +1,5 @@
 -- The chip before the first tick.
-use Rattle.std.specs.Prelude.{ℕ, true, false, List, [], Some, map, if◌then◌else◌}
+use Rattle.std.specs.Prelude.{ℕ, false, List, [], Some, map, if◌then◌else◌}
 use Rattle.std.specs.List.{range_with_len}
 use Rattle.chip_words.specs.Map.{is_fram}
 use Rattle.chip_words.specs.Memory.{memory_size}

@@ -1,6 +1,6 @@
 -- One instruction as a script, for the forms that are built: JMP, and MOV and BIC from a generated
 -- constant to an absolute address.
-use Rattle.std.specs.Prelude.{ℕ, ◌+◌, ◌-◌, ◌*◌, ◌/◌, ◌%◌, ◌==◌, ◌&&◌, ◌<◌, nat_lt, Bool, true, false, if◌then◌else◌, List, slice_index, Option, Some, None, bit_and}
+use Rattle.std.specs.Prelude.{ℕ, ◌+◌, ◌-◌, ◌*◌, ◌/◌, ◌%◌, ◌==◌, ◌&&◌, ◌<◌, nat_lt, if◌then◌else◌, List, slice_index, Option, Some, None, bit_and}
 use Rattle.chip_words.specs.declared.sizes.Size.{Size}
 use Rattle.chip_words.specs.declared.sizes.Size.TheVariants.{Byte, Word}
 use Rattle.chip_words.specs.declared.accesses.Kind.TheVariants.{Fetch, Read, Write}

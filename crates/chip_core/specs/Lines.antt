@@ -1,5 +1,5 @@
 -- The lines that a tick gives, in their order.
-use Rattle.std.specs.Prelude.{Bool, true, false, if◌then◌else◌, List, [], ◌∷◌, ◌++◌, Option, Some, None}
+use Rattle.std.specs.Prelude.{if◌then◌else◌, List, [], ◌∷◌, ◌++◌, Option, Some}
 use Rattle.trace_print.specs.declared.items.TraceItem.{TraceItem}
 use Rattle.trace_print.specs.declared.items.TraceItem.TheVariants.{On, Boot, Dead, Stop}
 use Rattle.chip_core.specs.declared.boots.Place.{Place}

@@ -1,5 +1,5 @@
 -- What one tick does to the chip: power, and then the owner of the bus.
-use Rattle.std.specs.Prelude.{ℕ, ◌+◌, ◌-◌, ◌==◌, nat_lt, Bool, true, false, if◌then◌else◌, List, [], Option, Some, None, slice_index}
+use Rattle.std.specs.Prelude.{ℕ, ◌+◌, ◌-◌, ◌==◌, nat_lt, true, false, if◌then◌else◌, [], Option, Some, None, slice_index}
 use Rattle.chip_words.specs.declared.sizes.Size.TheVariants.{Word}
 use Rattle.chip_words.specs.declared.accesses.Agent.TheVariants.{Cpu, Boot}
 use Rattle.chip_words.specs.Memory.{loaded}

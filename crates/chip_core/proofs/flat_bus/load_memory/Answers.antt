@@ -1,5 +1,5 @@
 -- What was written through the borrow is the memory.
-use Rattle.std.proofs.Common.{◌≡◌, ◌∙◌, ap, length, arith}
+use Rattle.std.proofs.Common.{◌∙◌, ap, arith}
 use Rattle.std.specs.Prelude.{slice_index}
 use Rattle.chip_core.proofs.FirstMemory.{loaded_back}
 use Rattle.chip_core.proofs.flat_bus.load_memory.Goals as goal
