@@ -14,7 +14,7 @@ struct Entry {
     place: u64,
 }
 
-/// The finds of a shelf. The ids are 0, 1 and so on.
+/// The finds of a shelf. An id is the place of its find, counted from 0.
 #[derive(Drop)]
 pub struct FindList {
     entries: Vec<Entry>,
@@ -56,6 +56,7 @@ impl FindList {
         requires { length self.old < MOST_FINDS }
         ensures ok { IfOk result (λ id. self.new ≡ self.old ++ record { id = id; name = string_bytes name; place = 0 } ∷ []) }
         ensures new { IfOk result (λ id. is_given id self.old ≡ false) }
+        ensures next { IfOk result (λ id. id ≡ length self.old) }
         ensures err { OnErr result (self.new ≡ self.old) }
     {
         let id = self.entries.len() as u32;
@@ -84,10 +85,11 @@ impl FindList {
         (entry.name.as_str(), entry.place)
     }
 
-    /// Which find of the list an id belongs to, counted from 0.
+    /// The place of an id's find in the list.
     pub fn position(&self, id: u32) -> usize
         requires { IsTrue (is_given id self.now) }
-        ensures { result < length self.now }
+        ensures same { result ≡ id }
+        ensures within { result < length self.now }
     {
         prove!((id as usize) < self.entries.len());
         id as usize
