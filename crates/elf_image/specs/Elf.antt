@@ -1,4 +1,4 @@
--- A 32-bit ELF file with the least byte first, as far as the loading of a program reads it.
+-- A 32-bit little-endian ELF file, as far as the loading of a program reads it.
 -- In the words of the format a half has two bytes and a word has four.
 use Rattle.std.specs.Prelude.{ℕ, ◌+◌, ◌*◌, Bool, ◌==◌, nat_eq, List, [], ◌∷◌, drop, map}
 use Rattle.std.specs.List.{starts_with}
@@ -12,7 +12,7 @@ half offset bytes = little_number 2 (drop offset bytes)
 unfoldable pub word : ℕ → List ℕ → ℕ
 word offset bytes = little_number 4 (drop offset bytes)
 
--- the bytes that a file begins with: the magic, then 32 bits and the least byte first
+-- the bytes that a file begins with: the magic, then the marks of 32 bits and of little endian
 abbrev pub identification : List ℕ
 identification = 0x7F ∷ 0x45 ∷ 0x4C ∷ 0x46 ∷ 1 ∷ 1 ∷ []
 
@@ -42,12 +42,15 @@ e_phentsize file = half 42 file
 abbrev pub e_phnum : List ℕ → ℕ
 e_phnum file = half 44 file
 
--- an executable, for the MSP430
+-- the type of an executable, the machine MSP430, and the type of a header whose bytes are loaded
 abbrev pub et_exec : ℕ
 et_exec = 2
 
 abbrev pub em_msp430 : ℕ
 em_msp430 = 105
+
+abbrev pub pt_load : ℕ
+pt_load = 1
 
 -- a program header in its 32 bytes
 unfoldable pub header_of : List ℕ → ProgramHeader
@@ -61,6 +64,5 @@ table_end file = e_phoff file + program_header_size * e_phnum file
 unfoldable pub header_table : List ℕ → List ProgramHeader
 header_table file = map header_of (first_chunks program_header_size (e_phnum file) (drop (e_phoff file) file))
 
--- a header whose bytes are loaded
 abbrev pub is_load : ProgramHeader → Bool
-is_load header = header.p_type == 1
+is_load header = header.p_type == pt_load

@@ -11,7 +11,7 @@ pub const PROGRAM_HEADER_SIZE: usize = 32;
 /// The type of a program header whose segment is loaded.
 const PT_LOAD: u32 = 1;
 
-/// What a 32-bit ELF file with the least byte first begins with: the magic, the class and the order.
+/// What a 32-bit little-endian ELF file begins with: the magic, the class and the byte order.
 const IDENTIFICATION: [u8; 6] = [0x7F, b'E', b'L', b'F', 1, 1];
 
 /// The fields of the ELF header that decide what is loaded.
@@ -62,7 +62,7 @@ fn read_word(bytes: &[u8], offset: usize) -> u32
     LittleEndian::read_u32(&bytes[offset..])
 }
 
-/// Says whether a file begins as a 32-bit ELF file with the least byte first.
+/// Says whether a file begins as a 32-bit little-endian ELF file.
 #[tactic(auto, unfolding(crate::specs::Elf::is_elf))]
 pub fn begins_as_elf(file: &[u8]) -> bool
     ensures { result ≡ is_elf file.now }

@@ -109,8 +109,7 @@ fn erase(memory: &mut [u8])
     erase_within(memory, MAIN_START, MAIN_END);
 }
 
-/// The program headers of an executable for the MSP430, or the first refusal that does not need
-/// what they say.
+/// The program headers of a file that nothing but a segment can refuse any more, or the refusal.
 #[tactic(auto, unfolding(crate::specs::Image::image_of, crate::specs::Elf::header_table))]
 fn read_headers<'a>(file: &'a [u8]) -> Result<&'a [[u8; PROGRAM_HEADER_SIZE]], ImageRefused>
     ensures refused { IfErr result (λ refused. image_of file.now ≡ Err refused) }
