@@ -1,0 +1,11 @@
+//! The instruction words of the processor: what a word means, and how many words belong to it.
+#![tactic(auto)]
+
+mod instructions;
+mod operations;
+mod places;
+
+pub use chip_words::Size;
+pub use instructions::{Count, Decoded, Rep};
+pub use operations::{Op1, Op2, OpA, OpS};
+pub use places::Place;
