@@ -1,0 +1,3 @@
+mod Narrow
+mod Sole
+mod OneRow
