@@ -1,3 +1,4 @@
 mod Narrow
 mod Sole
 mod OneRow
+mod Groups

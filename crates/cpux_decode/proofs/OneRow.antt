@@ -32,7 +32,7 @@ first_says-or_else e (row ∷ r) o = refl
 pub lookup-entry : (w0 w1 : ℕ) → lookup no_row (reserved_rows ++ ordinary_rows) w0 w1 ≡ entry w0 w1
 unfolding entry
 lookup-entry w0 w1 =
-  lookup-append no_row reserved_rows ordinary_rows w0 w1
-  ∙ ap (λ (x : Entry). lookup x reserved_rows w0 w1) (lookup-met no_row ordinary_rows w0 w1)
-  ∙ lookup-met (first_says no_row (rows_met ordinary_rows w0 w1)) reserved_rows w0 w1
-  ∙ first_says-or_else no_row (rows_met reserved_rows w0 w1) (rows_met ordinary_rows w0 w1)
+    lookup-append no_row reserved_rows ordinary_rows w0 w1
+    ∙ ap (λ (x : Entry). lookup x reserved_rows w0 w1) (lookup-met no_row ordinary_rows w0 w1)
+    ∙ lookup-met (first_says no_row (rows_met ordinary_rows w0 w1)) reserved_rows w0 w1
+    ∙ first_says-or_else no_row (rows_met reserved_rows w0 w1) (rows_met ordinary_rows w0 w1)

@@ -4,5 +4,4 @@ ghost use Rattle.cpux_decode.specs.Table.{EachPairMeetsOneRow};
 #[tactic(auto, using(crate::proofs::OneRow::each_pair_meets_one_row))]
 pub fn each_pair_meets_one_row()
     ensures { EachPairMeetsOneRow }
-{
-}
+{}

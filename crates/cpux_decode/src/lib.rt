@@ -1,6 +1,7 @@
 //! The instruction words of the processor: what a word means, and how many words belong to it.
 #![tactic(auto)]
 
+mod classify;
 mod forms;
 mod instructions;
 mod laws;
