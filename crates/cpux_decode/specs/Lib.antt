@@ -1,3 +1,5 @@
 pub mod Rows
 pub mod Table
 pub mod Branches
+pub mod Operands
+pub mod Instructions
