@@ -3,3 +3,4 @@ pub mod Table
 pub mod Branches
 pub mod Operands
 pub mod Instructions
+pub mod Ranges

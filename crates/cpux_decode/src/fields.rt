@@ -1,5 +1,6 @@
 ghost use Rattle.std.specs.Prelude.{◌≡◌, ◌≤◌};
 ghost use Rattle.cpux_decode.specs.Instructions.{instruction_of, jump as jump_of, long_one_operand as long_one_operand_of, long_two_operands as long_two_operands_of, many_size as many_size_of, one_operand as one_operand_of, shift_many as shift_many_of, shift_operation as shift_operation_of, two_operands as two_operands_of};
+ghost use Rattle.cpux_decode.specs.Ranges.{IsInRange};
 
 use crate::forms::Form;
 use crate::instructions::Decoded;
@@ -14,7 +15,8 @@ use chip_words::Size;
 /// The instruction of a form, with the fields of its words.
 #[tactic(auto, unfolding(crate::specs::Instructions::instruction_of))]
 pub fn instruction(form: Form, words: [u16; 4]) -> Decoded
-    ensures { result ≡ instruction_of form words }
+    ensures instruction { result ≡ instruction_of form words }
+    ensures range { IsInRange result }
 {
     let w0 = words[0];
     let (s, d) = (field_11_8(w0), field_3_0(w0));
@@ -102,7 +104,8 @@ pub fn instruction(form: Form, words: [u16; 4]) -> Decoded
 
 #[tactic(auto, unfolding(crate::specs::Instructions::two_operands))]
 fn two_operands(op: Op2, words: [u16; 4]) -> Decoded
-    ensures { result ≡ two_operands_of op words }
+    ensures instruction { result ≡ two_operands_of op words }
+    ensures range { IsInRange result }
 {
     let word = words[0];
     let (mode, r) = (source_mode(word), field_11_8(word));
@@ -119,7 +122,8 @@ fn two_operands(op: Op2, words: [u16; 4]) -> Decoded
 
 #[tactic(auto, unfolding(crate::specs::Instructions::long_two_operands))]
 fn long_two_operands(op: Op2, words: [u16; 4]) -> Decoded
-    ensures { result ≡ long_two_operands_of op words }
+    ensures instruction { result ≡ long_two_operands_of op words }
+    ensures range { IsInRange result }
 {
     let (extension, word) = (words[0], words[1]);
     let (mode, r) = (source_mode(word), field_11_8(word));
@@ -137,7 +141,8 @@ fn long_two_operands(op: Op2, words: [u16; 4]) -> Decoded
 
 #[tactic(auto, unfolding(crate::specs::Instructions::one_operand))]
 fn one_operand(op: Op1, words: [u16; 4]) -> Decoded
-    ensures { result ≡ one_operand_of op words }
+    ensures instruction { result ≡ one_operand_of op words }
+    ensures range { IsInRange result }
 {
     let word = words[0];
     Decoded::One {
@@ -151,7 +156,8 @@ fn one_operand(op: Op1, words: [u16; 4]) -> Decoded
 
 #[tactic(auto, unfolding(crate::specs::Instructions::long_one_operand))]
 fn long_one_operand(op: Op1, words: [u16; 4]) -> Decoded
-    ensures { result ≡ long_one_operand_of op words }
+    ensures instruction { result ≡ long_one_operand_of op words }
+    ensures range { IsInRange result }
 {
     let (extension, word) = (words[0], words[1]);
     let mode = source_mode(word);
@@ -168,7 +174,8 @@ fn long_one_operand(op: Op1, words: [u16; 4]) -> Decoded
 /// A distance of ten bits, as a signed number.
 #[tactic(auto, unfolding(crate::specs::Instructions::jump))]
 fn jump(word: u16) -> Decoded
-    ensures { result ≡ jump_of word }
+    ensures instruction { result ≡ jump_of word }
+    ensures range { IsInRange result }
 {
     let distance = (word & 0x3FF) as i16;
     let offset = if distance < 512 {
@@ -195,7 +202,8 @@ fn shift_operation(code: u8) -> OpS
 
 #[tactic(auto, unfolding(crate::specs::Instructions::shift_many))]
 fn shift_many(word: u16) -> Decoded
-    ensures { result ≡ shift_many_of word }
+    ensures instruction { result ≡ shift_many_of word }
+    ensures range { IsInRange result }
 {
     Decoded::Shift {
         op: shift_operation(((word >> 8) & 3) as u8),

@@ -3,6 +3,7 @@
 
 ghost use Rattle.std.specs.Prelude.{◌≡◌, ◌≤◌};
 ghost use Rattle.cpux_decode.specs.Instructions.{decoded, length_of, operand_words as operand_words_of};
+ghost use Rattle.cpux_decode.specs.Ranges.{IsInRange};
 
 mod classify;
 mod fields;
@@ -50,7 +51,8 @@ fn operand_words(form: Form, w0: u16, w1: u16) -> u8
 /// The instruction that these words begin with.
 #[tactic(auto, unfolding(crate::specs::Instructions::decoded))]
 pub fn decode(words: [u16; 4]) -> Decoded
-    ensures { result ≡ decoded words }
+    ensures instruction { result ≡ decoded words }
+    ensures range { IsInRange result }
 {
     instruction(classify(words[0], words[1]).form, words)
 }

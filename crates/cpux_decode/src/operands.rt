@@ -1,4 +1,5 @@
 ghost use Rattle.std.specs.Prelude.{◌≡◌, ◌<◌, ◌≤◌};
+ghost use Rattle.cpux_decode.specs.Ranges.{IsCount, IsDestination, IsPlace};
 ghost use Rattle.cpux_decode.specs.Operands.{bit, bits, destination_place, long_size_of, once as once_of, rep_of, sign_extended as sign_extension_of, size_of, source_place, source_words as source_words_of, wide as wide_of};
 
 use crate::instructions::{Count, Rep};
@@ -58,14 +59,16 @@ pub fn is_set(word: u16, place: u32) -> bool
 /// 20 bits from their upper four and a word.
 pub fn wide(high: u8, low: u16) -> u32
     requires { high < 16 }
-    ensures { result ≡ wide_of high low }
+    ensures value { result ≡ wide_of high low }
+    ensures range { result < 0x100000 }
 {
     (high as u32) << 16 | low as u32
 }
 
 /// A word as a signed number, at 20 bits.
 pub fn sign_extended(word: u16) -> u32
-    ensures { result ≡ sign_extension_of word }
+    ensures value { result ≡ sign_extension_of word }
+    ensures range { result < 0x100000 }
 {
     if word < 0x8000 {
         word as u32
@@ -79,7 +82,9 @@ pub fn sign_extended(word: u16) -> u32
 pub fn source(long: bool, high: u8, mode: u8, r: u8, x: u16) -> Place
     requires high { high < 16 }
     requires mode { mode < 4 }
-    ensures { result ≡ source_place long high mode r x }
+    requires register { r < 16 }
+    ensures place { result ≡ source_place long high mode r x }
+    ensures range { IsPlace result }
 {
     match (mode, r) {
         (0, 3) => Place::Const(0),
@@ -116,7 +121,9 @@ pub fn source_words(mode: u8, r: u8) -> u8
 #[tactic(auto, unfolding(crate::specs::Operands::destination_place))]
 pub fn destination(long: bool, high: u8, mode: u8, r: u8, x: u16) -> Place
     requires high { high < 16 }
-    ensures { result ≡ destination_place long high mode r x }
+    requires register { r < 16 }
+    ensures place { result ≡ destination_place long high mode r x }
+    ensures range { IsDestination result }
 {
     match (mode, r) {
         (0, _) => Place::Reg(r),
@@ -150,7 +157,8 @@ pub fn long_size(extension: u16, word: u16) -> Size
 
 /// No repeats, and the carry as it is.
 pub fn once() -> Rep
-    ensures { result ≡ once_of }
+    ensures rep { result ≡ once_of }
+    ensures range { IsCount result.count }
 {
     Rep {
         zero_carry: false,
@@ -161,7 +169,8 @@ pub fn once() -> Rep
 /// What an extension word says of repeats, which counts for a register form alone.
 #[tactic(auto, unfolding(crate::specs::Operands::rep_of))]
 pub fn rep(repeated: bool, extension: u16) -> Rep
-    ensures { result ≡ rep_of repeated extension }
+    ensures rep { result ≡ rep_of repeated extension }
+    ensures range { IsCount result.count }
 {
     if !repeated {
         return once();
