@@ -2,3 +2,6 @@ mod Narrow
 mod Sole
 mod OneRow
 mod Groups
+mod Lookups
+mod Entries
+mod Fronts

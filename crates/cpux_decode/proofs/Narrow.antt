@@ -138,7 +138,7 @@ lookup-narrowed_next e (fact ∷ facts) rows w0 w1 k = lookup-narrow_next e fact
 abbrev pub rest : {A : Type 0} → List (ℕ × ℕ) → List (ℕ × ℕ) → List (Row A) → List (Row A)
 rest first next rows = cut (narrowed_next next (narrowed first rows))
 
-lookup-rest : {A : Type 0} (e : A) (first next : List (ℕ × ℕ)) (rows : List (Row A)) (w0 w1 : ℕ) → Knows first w0 → Knows next w1 → lookup e rows w0 w1 ≡ lookup e (rest first next rows) w0 w1
+pub lookup-rest : {A : Type 0} (e : A) (first next : List (ℕ × ℕ)) (rows : List (Row A)) (w0 w1 : ℕ) → Knows first w0 → Knows next w1 → lookup e rows w0 w1 ≡ lookup e (rest first next rows) w0 w1
 lookup-rest e first next rows w0 w1 h k = lookup-narrowed e first rows w0 w1 h ∙ lookup-narrowed_next e next (narrowed first rows) w0 w1 k ∙ lookup-cut e (narrowed_next next (narrowed first rows)) w0 w1
 
 -- two tables say the same of words of which something is known, where the same rows are left of them

@@ -1,5 +1,5 @@
 -- What the words of an instruction mean, and how many they are.
-use Rattle.std.specs.Prelude.{ℕ, ℤ, pos, negsuc, ◌+◌, ◌-◌, ◌%◌, Bool, true, false, nat_lt, ◌==◌, ◌&&◌, not, if◌then◌else◌, List, slice_index}
+use Rattle.std.specs.Prelude.{◌≡◌, ◌<◌, ℕ, ℤ, pos, negsuc, ◌+◌, ◌-◌, ◌%◌, Bool, true, false, nat_lt, ◌==◌, ◌&&◌, not, if◌then◌else◌, List, slice_index}
 use Rattle.chip_words.specs.declared.sizes.Size.{Size}
 use Rattle.chip_words.specs.declared.sizes.Size.TheVariants.{Word, Addr}
 use Rattle.cpux_decode.specs.declared.forms.Form.{Form}
@@ -117,6 +117,10 @@ instruction_of (LongTwo op) words = long_two_operands op words
 instruction_of Jump words = jump (slice_index words 0)
 instruction_of (Two op) words = two_operands op words
 
+-- a word from 1800h to 1FFFh, which is followed by an instruction word
+abbrev pub is_extension : ℕ → Bool
+is_extension word = bits word 15 11 == 3
+
 -- the instruction that some words begin with
 unfoldable pub decoded : List ℕ → Decoded
 decoded words = instruction_of (entry (slice_index words 0) (slice_index words 1)).form words
@@ -132,3 +136,7 @@ operand_words form w0 w1 = 0
 -- how many words belong to the instruction that begins with these two
 unfoldable pub length_of : ℕ → ℕ → ℕ
 length_of w0 w1 = (entry w0 w1).words + operand_words (entry w0 w1).form w0 w1
+
+-- two lists begin with the same words, as many as this
+abbrev pub SameFront : ℕ → List ℕ → List ℕ → Type 0
+SameFront n words others = (k : ℕ) → k < n → slice_index words k ≡ slice_index others k
