@@ -85,6 +85,9 @@ entry_has_words w0 w1 = ap has_words (sym (lookup-entry_any no_row w0 w1)) ∙ l
 pub entry_words : (w0 w1 : ℕ) → (field_words (entry w0 w1).form ≤ (entry w0 w1).words) × ((entry w0 w1).words ≤ 2)
 entry_words w0 w1 = let h = entry_has_words w0 w1 in (grind (arith, nat_tests), grind (arith, nat_tests))
 
+pub entry_words-most : (w0 w1 : ℕ) → (entry w0 w1).words ≤ 2
+entry_words-most w0 w1 = (entry_words w0 w1).1
+
 -- ---- extension words
 
 no_extension : (w : ℕ) → is_extension w ≡ false → bit_and w 0xF800 ≢ 0x1800

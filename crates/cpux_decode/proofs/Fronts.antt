@@ -9,7 +9,7 @@ use Rattle.cpux_decode.specs.declared.forms.Entry.{Entry}
 use Rattle.cpux_decode.specs.Table.{entry}
 use Rattle.cpux_decode.specs.Operands.{bits, source_place, source_words, destination_place}
 use Rattle.cpux_decode.specs.Instructions.{two_operands, long_two_operands, one_operand, long_one_operand, jump, shift_many, instruction_of, decoded, operand_words, length_of, is_extension, SameFront}
-use Rattle.cpux_decode.proofs.Entries.{field_words, entry_words, entry-alone, extension_words}
+use Rattle.cpux_decode.proofs.Entries.{field_words, entry_words, entry_words-most, is_long_form, entry-alone, extension_words, long_form-alone}
 
 -- ---- operands
 
@@ -141,3 +141,21 @@ decoded-front a b s =
     ap (λ w. instruction_of (entry w (slice_index b 1)).form b) (sym e)
     ∙ ap (λ (x : Entry). instruction_of x.form b) (sym f)
     ∙ sym (instruction_same (entry (slice_index a 0) (slice_index a 1)).form a b (own_words a b s))
+
+operand_words-alone : (form : Form) (w0 w1 w2 : ℕ) → is_long_form form ≡ false → operand_words form w0 w1 ≡ operand_words form w0 w2
+unfolding operand_words
+operand_words-alone (LongOne op) w0 w1 w2 h = cc
+operand_words-alone (LongTwo op) w0 w1 w2 h = cc
+operand_words-alone form w0 w1 w2 h = refl
+
+pub length_of-alone : (w0 w1 w2 : ℕ) → is_extension w0 ≡ false → length_of w0 w2 ≡ length_of w0 w1
+unfolding length_of
+length_of-alone w0 w1 w2 h =
+    ap (λ (e : Entry). e.words + operand_words e.form w0 w2) (entry-alone w0 w2 w1 h)
+    ∙ ap (λ n. (entry w0 w1).words + n) (operand_words-alone (entry w0 w1).form w0 w2 w1 (long_form-alone w0 w1 h))
+
+-- ---- as contracts take them
+
+pub ruleset lengths = (entry_words-most, length_of-positive, length_of-extension, length_of-alone)
+
+pub ruleset fronts = (decoded-front)

@@ -5,3 +5,4 @@ mod Groups
 mod Lookups
 mod Entries
 mod Fronts
+mod Reserved

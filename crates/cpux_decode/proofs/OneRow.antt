@@ -31,10 +31,10 @@ first_says-or_else e (row ∷ r) o = refl
 -- the one row that a pair meets is the first that it meets
 pub lookup-entry_of : (e : Entry) (w0 w1 : ℕ) → lookup e (reserved_rows ++ ordinary_rows) w0 w1 ≡ first_says e (table_rows w0 w1)
 lookup-entry_of e w0 w1 =
-  lookup-append e reserved_rows ordinary_rows w0 w1
-  ∙ ap (λ (x : Entry). lookup x reserved_rows w0 w1) (lookup-met e ordinary_rows w0 w1)
-  ∙ lookup-met (first_says e (rows_met ordinary_rows w0 w1)) reserved_rows w0 w1
-  ∙ first_says-or_else e (rows_met reserved_rows w0 w1) (rows_met ordinary_rows w0 w1)
+    lookup-append e reserved_rows ordinary_rows w0 w1
+    ∙ ap (λ (x : Entry). lookup x reserved_rows w0 w1) (lookup-met e ordinary_rows w0 w1)
+    ∙ lookup-met (first_says e (rows_met ordinary_rows w0 w1)) reserved_rows w0 w1
+    ∙ first_says-or_else e (rows_met reserved_rows w0 w1) (rows_met ordinary_rows w0 w1)
 
 pub lookup-entry : (w0 w1 : ℕ) → lookup no_row (reserved_rows ++ ordinary_rows) w0 w1 ≡ entry w0 w1
 unfolding entry
