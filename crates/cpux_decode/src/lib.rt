@@ -79,3 +79,6 @@ pub fn decode(words: [u16; 4]) -> Decoded
 {
     instruction(classify(words[0], words[1]).form, words)
 }
+
+#[cfg(test)]
+mod tests;
