@@ -32,8 +32,8 @@ pub fn is_extension(word: u16) -> bool
     word >> 11 == 3
 }
 
-/// How many words belong to the instruction that begins with these two. Where the first is no extension word, the second
-/// may be any.
+/// How many words belong to the instruction that begins with these two. Where the first is no extension
+/// word, the second may be any.
 #[tactic(auto, using(crate::proofs::Fronts::lengths), unfolding(crate::specs::Instructions::length_of))]
 pub fn length(w0: u16, w1: u16) -> u32
     ensures count { result ≡ length_of w0 w1 }

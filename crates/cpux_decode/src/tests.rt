@@ -1,5 +1,5 @@
-//! Instructions that were encoded by hand from the prose of the instruction set, field by field: the comments give the
-//! fields. Words with an assembler line alone were read from the listing of a program.
+//! Instructions that were encoded by hand from the prose of the instruction set, field by field: the
+//! comments give the fields. Words with an assembler line alone were read from the listing of a program.
 
 use super::Place::{Absolute, At, AtPlus, Const, Far, Imm, Near, Reg};
 use super::Size::{Addr, Byte, Word};
