@@ -46,7 +46,8 @@ module _ (w0 w1 : ℕ) (fits : w0 < 0x10000) where
   entry-says : (k v : ℕ) (left : Row Entry) → k ≤ 16 → rest (high k v) [] all_rows ≡ left ∷ [] →
       trivial left ≡ true → w0 / 2 ^ k ≡ v → entry w0 w1 ≡ left.says
   entry-says k v left a s t e =
-      sym (lookup-entry w0 w1) ∙ sure no_row (high k v) [] all_rows left w0 w1 s t (upper k w0 v a fits e) tt
+      sym (lookup-entry w0 w1)
+        ∙ sure no_row (high k v) [] all_rows left w0 w1 s t (upper k w0 v a fits e) tt
 
   -- ---- the first word by its upper four bits
 
@@ -201,33 +202,41 @@ module _ (w0 w1 : ℕ) (fits : w0 < 0x10000) where
   one-lookup : (v : ℕ) (left : List (Row Entry)) →
       rest (high 6 v) [] one_rows ≡ rest (high 6 v) [] left → w0 / 0x40 ≡ v →
       lookup no_row one_rows w0 w1 ≡ lookup no_row left w0 w1
-  one-lookup v left s e = agree no_row (high 6 v) [] one_rows left w0 w1 s (upper 6 w0 v (lit≤ tt) fits e) tt
+  one-lookup v left s e =
+      agree no_row (high 6 v) [] one_rows left w0 w1 s (upper 6 w0 v (lit≤ tt) fits e) tt
 
   one-says : (v : ℕ) (left : Row Entry) → rest (high 6 v) [] one_rows ≡ left ∷ [] → trivial left ≡ true →
       w0 / 0x40 ≡ v → lookup no_row one_rows w0 w1 ≡ left.says
-  one-says v left s t e = sure no_row (high 6 v) [] one_rows left w0 w1 s t (upper 6 w0 v (lit≤ tt) fits e) tt
+  one-says v left s t e =
+      sure no_row (high 6 v) [] one_rows left w0 w1 s t (upper 6 w0 v (lit≤ tt) fits e) tt
 
-  pub one_40 : w0 / 0x40 ≡ 0x40 → lookup no_row one_rows w0 w1 ≡ lookup no_row (operand_rows (One Rrc)) w0 w1
+  pub one_40 : w0 / 0x40 ≡ 0x40 →
+      lookup no_row one_rows w0 w1 ≡ lookup no_row (operand_rows (One Rrc)) w0 w1
   unfolding reserved_one_operand_rows one_operand_rows
   one_40 e = one-lookup 0x40 (operand_rows (One Rrc)) refl e
 
-  pub one_41 : w0 / 0x40 ≡ 0x41 → lookup no_row one_rows w0 w1 ≡ lookup no_row (operand_rows (One Rrc)) w0 w1
+  pub one_41 : w0 / 0x40 ≡ 0x41 →
+      lookup no_row one_rows w0 w1 ≡ lookup no_row (operand_rows (One Rrc)) w0 w1
   unfolding reserved_one_operand_rows one_operand_rows
   one_41 e = one-lookup 0x41 (operand_rows (One Rrc)) refl e
 
-  pub one_42 : w0 / 0x40 ≡ 0x42 → lookup no_row one_rows w0 w1 ≡ lookup no_row (operand_rows (One Swpb)) w0 w1
+  pub one_42 : w0 / 0x40 ≡ 0x42 →
+      lookup no_row one_rows w0 w1 ≡ lookup no_row (operand_rows (One Swpb)) w0 w1
   unfolding reserved_one_operand_rows one_operand_rows
   one_42 e = one-lookup 0x42 (operand_rows (One Swpb)) refl e
 
-  pub one_44 : w0 / 0x40 ≡ 0x44 → lookup no_row one_rows w0 w1 ≡ lookup no_row (operand_rows (One Rra)) w0 w1
+  pub one_44 : w0 / 0x40 ≡ 0x44 →
+      lookup no_row one_rows w0 w1 ≡ lookup no_row (operand_rows (One Rra)) w0 w1
   unfolding reserved_one_operand_rows one_operand_rows
   one_44 e = one-lookup 0x44 (operand_rows (One Rra)) refl e
 
-  pub one_45 : w0 / 0x40 ≡ 0x45 → lookup no_row one_rows w0 w1 ≡ lookup no_row (operand_rows (One Rra)) w0 w1
+  pub one_45 : w0 / 0x40 ≡ 0x45 →
+      lookup no_row one_rows w0 w1 ≡ lookup no_row (operand_rows (One Rra)) w0 w1
   unfolding reserved_one_operand_rows one_operand_rows
   one_45 e = one-lookup 0x45 (operand_rows (One Rra)) refl e
 
-  pub one_46 : w0 / 0x40 ≡ 0x46 → lookup no_row one_rows w0 w1 ≡ lookup no_row (operand_rows (One Sxt)) w0 w1
+  pub one_46 : w0 / 0x40 ≡ 0x46 →
+      lookup no_row one_rows w0 w1 ≡ lookup no_row (operand_rows (One Sxt)) w0 w1
   unfolding reserved_one_operand_rows one_operand_rows
   one_46 e = one-lookup 0x46 (operand_rows (One Sxt)) refl e
 
@@ -267,12 +276,15 @@ module _ (w0 w1 : ℕ) (fits : w0 < 0x10000) (is_extension : w0 / 0x800 ≡ 3) (
       rest extension (high k v) long_rows ≡ rest extension (high k v) left → w1 / 2 ^ k ≡ v →
       lookup no_row long_rows w0 w1 ≡ lookup no_row left w0 w1
   long-lookup k v left a s e =
-      agree no_row extension (high k v) long_rows left w0 w1 s (extension_known, tt) (upper k w1 v a next_fits e)
+      agree no_row extension (high k v) long_rows left w0 w1 s (extension_known, tt)
+          (upper k w1 v a next_fits e)
 
-  long-reserved : (k v : ℕ) → k ≤ 16 → rest extension (high k v) long_rows ≡ long_row 0 0 0 0 Reserved ∷ [] →
+  long-reserved : (k v : ℕ) → k ≤ 16 →
+      rest extension (high k v) long_rows ≡ long_row 0 0 0 0 Reserved ∷ [] →
       w1 / 2 ^ k ≡ v → lookup no_row long_rows w0 w1 ≡ two_words Reserved
   long-reserved k v a s e =
-      sure no_row extension (high k v) long_rows (long_row 0 0 0 0 Reserved) w0 w1 s refl (extension_known, tt) (upper k w1 v a next_fits e)
+      sure no_row extension (high k v) long_rows (long_row 0 0 0 0 Reserved) w0 w1 s refl
+          (extension_known, tt) (upper k w1 v a next_fits e)
 
   -- ---- by the upper four bits of the second word
 
@@ -417,27 +429,32 @@ module _ (w0 w1 : ℕ) (fits : w0 < 0x10000) (is_extension : w0 / 0x800 ≡ 3) (
         (extension_known w0 w1 fits is_extension next_fits, (refl, tt))
         ((upper 7 w1 v (lit≤ tt) next_fits e).0, (refl, tt))
 
-  pub long_20 : w1 / 0x80 ≡ 0x20 → lookup no_row long_rows w0 w1 ≡ lookup no_row (long_rotate_rows (LongOne Rrc)) w0 w1
+  pub long_20 : w1 / 0x80 ≡ 0x20 →
+      lookup no_row long_rows w0 w1 ≡ lookup no_row (long_rotate_rows (LongOne Rrc)) w0 w1
   unfolding reserved_extended_rows reserved_before_rows reserved_width_rows reserved_operand_rows
       extended_rows
   long_20 e = long-lookup_bits 0x20 (long_rotate_rows (LongOne Rrc)) refl refl refl refl e
 
-  pub long_21 : w1 / 0x80 ≡ 0x21 → lookup no_row long_rows w0 w1 ≡ lookup no_row (long_word_rows (LongOne Swpb)) w0 w1
+  pub long_21 : w1 / 0x80 ≡ 0x21 →
+      lookup no_row long_rows w0 w1 ≡ lookup no_row (long_word_rows (LongOne Swpb)) w0 w1
   unfolding reserved_extended_rows reserved_before_rows reserved_width_rows reserved_operand_rows
       extended_rows
   long_21 e = long-lookup_bits 0x21 (long_word_rows (LongOne Swpb)) refl refl refl refl e
 
-  pub long_22 : w1 / 0x80 ≡ 0x22 → lookup no_row long_rows w0 w1 ≡ lookup no_row (long_rotate_rows (LongOne Rra)) w0 w1
+  pub long_22 : w1 / 0x80 ≡ 0x22 →
+      lookup no_row long_rows w0 w1 ≡ lookup no_row (long_rotate_rows (LongOne Rra)) w0 w1
   unfolding reserved_extended_rows reserved_before_rows reserved_width_rows reserved_operand_rows
       extended_rows
   long_22 e = long-lookup_bits 0x22 (long_rotate_rows (LongOne Rra)) refl refl refl refl e
 
-  pub long_23 : w1 / 0x80 ≡ 0x23 → lookup no_row long_rows w0 w1 ≡ lookup no_row (long_word_rows (LongOne Sxt)) w0 w1
+  pub long_23 : w1 / 0x80 ≡ 0x23 →
+      lookup no_row long_rows w0 w1 ≡ lookup no_row (long_word_rows (LongOne Sxt)) w0 w1
   unfolding reserved_extended_rows reserved_before_rows reserved_width_rows reserved_operand_rows
       extended_rows
   long_23 e = long-lookup_bits 0x23 (long_word_rows (LongOne Sxt)) refl refl refl refl e
 
-  pub long_24 : w1 / 0x80 ≡ 0x24 → lookup no_row long_rows w0 w1 ≡ lookup no_row (long_width_rows (LongOne Push)) w0 w1
+  pub long_24 : w1 / 0x80 ≡ 0x24 →
+      lookup no_row long_rows w0 w1 ≡ lookup no_row (long_width_rows (LongOne Push)) w0 w1
   unfolding reserved_extended_rows reserved_before_rows reserved_width_rows reserved_operand_rows
       extended_rows
   long_24 e = long-lookup_bits 0x24 (long_width_rows (LongOne Push)) refl refl refl refl e
