@@ -1,5 +1,5 @@
 -- What the table says of a pair of words, beyond its rows.
-use Rattle.std.proofs.Common.{◌≡◌, ◌≢◌, ℕ, ◌+◌, ◌<◌, ◌≤◌, Bool, true, false, cond, List, [], ◌∷◌, ◌++◌, length, refl, ap, sym, ◌∙◌, arith, ◌==◌, ◌&&◌, ◌||◌, nat_le, not}
+use Rattle.std.proofs.Common.{◌≡◌, ◌≢◌, ℕ, ◌+◌, ◌≤◌, Bool, true, false, List, [], ◌∷◌, ◌++◌, refl, ap, sym, ◌∙◌, arith, ◌&&◌, ◌||◌, nat_le, not}
 use Rattle.std.specs.List.{list_all, list_any}
 use Rattle.std.specs.Int.Bits.{bit_and}
 use Rattle.std.proofs.lemmas.Bool.Decides.{nat_tests}
@@ -7,13 +7,13 @@ use Rattle.std.proofs.lemmas.Nat.Bits.{and_high}
 use Rattle.cpux_decode.specs.declared.forms.Form.{Form}
 use Rattle.cpux_decode.specs.declared.forms.Form.TheVariants.{Reserved, MoveAbsolute, MoveIndexed, MoveToAbsolute, MoveToIndexed, MoveImm, AddrImm, Reti, CallIndexed, CallAbsolute, CallSymbolic, CallImm, LongOne, LongTwo}
 use Rattle.cpux_decode.specs.declared.forms.Entry.{Entry}
-use Rattle.cpux_decode.specs.Rows.{Row, meets, rows_met, or_else, first_says, lookup}
+use Rattle.cpux_decode.specs.Rows.{Row, meets, lookup}
 use Rattle.cpux_decode.specs.Table.{reserved_rows, ordinary_rows, table_rows, entry, is_reserved, no_row, address_rows, one_operand_rows, reserved_one_operand_rows, call_rows, reserved_call_rows, many_rows, extended_rows, reserved_extended_rows, reserved_before_rows, reserved_width_rows, reserved_operand_rows, jump_rows, two_operand_rows}
-use Rattle.cpux_decode.specs.Operands.{bits}
+
 use Rattle.cpux_decode.specs.Instructions.{is_extension}
 use Rattle.cpux_decode.proofs.Narrow.{rest, lookup-rest}
-use Rattle.cpux_decode.proofs.OneRow.{each_pair_meets_one_row, lookup-met, lookup-append, lookup-entry_of}
-use Rattle.cpux_decode.proofs.Lookups.{both, lookup-passes, lookup-any, lookup-none, first_says-one, is_long, is_short, lookup-alone, lookup-passes_alone}
+use Rattle.cpux_decode.proofs.OneRow.{each_pair_meets_one_row, lookup-append, lookup-entry_of}
+use Rattle.cpux_decode.proofs.Lookups.{lookup-passes, lookup-any, lookup-none, first_says-one, is_long, is_short, lookup-alone, lookup-passes_alone}
 
 abbrev all_rows : List (Row Entry)
 all_rows = reserved_rows ++ ordinary_rows

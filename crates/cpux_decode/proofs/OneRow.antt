@@ -1,5 +1,5 @@
 -- Each pair of words meets one row of the table, and what the table says of it is what the first row says that it meets.
-use Rattle.std.proofs.Common.{◌≡◌, ℕ, Bool, true, false, cond, List, [], ◌∷◌, ◌++◌, length, refl, ap, ◌∙◌}
+use Rattle.std.proofs.Common.{◌≡◌, ℕ, Bool, true, false, cond, List, [], ◌∷◌, ◌++◌, refl, ap, ◌∙◌}
 use Rattle.cpux_decode.specs.declared.forms.Entry.{Entry}
 use Rattle.cpux_decode.specs.Rows.{Row, meets, kept_row, rows_met, or_else, first_says, lookup}
 use Rattle.cpux_decode.specs.Table.{reserved_rows, ordinary_rows, table_rows, entry, no_row, EachPairMeetsOneRow, address_rows, one_operand_rows, reserved_one_operand_rows, call_rows, reserved_call_rows, many_rows, extended_rows, reserved_extended_rows, reserved_before_rows, reserved_width_rows, reserved_operand_rows, jump_rows, two_operand_rows}

@@ -1,8 +1,8 @@
 -- What the table reserves is what `decoded` reserves.
-use Rattle.std.proofs.Common.{◌≡◌, ℕ, Bool, true, false, List, refl, ap, sym, ◌∙◌, slice_index}
+use Rattle.std.proofs.Common.{◌≡◌, ℕ, true, List, refl, sym, ◌∙◌, slice_index}
 use Rattle.std.specs.Prelude.{◌↔◌, IsTrue}
 use Rattle.cpux_decode.specs.declared.forms.Form.{Form}
-use Rattle.cpux_decode.specs.declared.forms.Form.TheVariants.{Reserved, MoveAt, MoveAtPlus, MoveAbsolute, MoveIndexed, MoveToAbsolute, MoveToIndexed, MoveImm, MoveReg, AddrImm, AddrReg, ShiftMany, One, Reti, CallReg, CallIndexed, CallAt, CallAtPlus, CallAbsolute, CallSymbolic, CallImm, PushMany, PopMany, LongOne, LongTwo, Jump, Two}
+use Rattle.cpux_decode.specs.declared.forms.Form.TheVariants.{Reserved}
 use Rattle.cpux_decode.specs.declared.instructions.Decoded.TheVariants as made
 use Rattle.cpux_decode.specs.Table.{entry, is_reserved}
 use Rattle.cpux_decode.specs.Instructions.{two_operands, long_two_operands, one_operand, long_one_operand, jump, shift_many, instruction_of, decoded}

@@ -1,5 +1,5 @@
 -- What the table leaves to be told where the operation is known.
-use Rattle.std.specs.Prelude.{ℕ, List, [], ◌∷◌}
+use Rattle.std.specs.Prelude.{List, [], ◌∷◌}
 use Rattle.cpux_decode.specs.declared.forms.Form.{Form}
 use Rattle.cpux_decode.specs.declared.forms.Form.TheVariants.{Reserved}
 use Rattle.cpux_decode.specs.declared.forms.Entry.{Entry}

@@ -1,5 +1,5 @@
 -- What the words of an instruction mean, and how many they are.
-use Rattle.std.specs.Prelude.{◌≡◌, ◌<◌, ℕ, ℤ, pos, negsuc, ◌+◌, ◌-◌, ◌%◌, Bool, true, false, nat_lt, ◌==◌, ◌&&◌, not, if◌then◌else◌, List, slice_index}
+use Rattle.std.specs.Prelude.{◌≡◌, ◌<◌, ℕ, pos, negsuc, ◌+◌, ◌-◌, Bool, true, false, nat_lt, ◌==◌, ◌&&◌, not, if◌then◌else◌, List, slice_index}
 use Rattle.chip_words.specs.declared.sizes.Size.{Size}
 use Rattle.chip_words.specs.declared.sizes.Size.TheVariants.{Word, Addr}
 use Rattle.cpux_decode.specs.declared.forms.Form.{Form}
