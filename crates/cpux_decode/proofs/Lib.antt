@@ -1,5 +1,5 @@
 mod Narrow
-mod Sole
+mod Splits
 mod OneRow
 mod Groups
 mod Lookups
