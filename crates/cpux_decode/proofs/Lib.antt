@@ -6,3 +6,4 @@ mod Lookups
 mod Entries
 mod Fronts
 mod Reserved
+mod ReasonsLemmas

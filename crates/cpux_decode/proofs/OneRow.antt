@@ -42,7 +42,8 @@ tested = refl
 pub each_pair_meets_one_row : EachPairMeetsOneRow
 each_pair_meets_one_row w0 w1 =
     length-or_else (rows_met reserved_rows w0 w1) (rows_met ordinary_rows w0 w1)
-    ∙ passes-tells done (λ m n. either m n ≡ 1) w0 w1 (done_one w0 w1) places places reserved_rows ordinary_rows tested
+    ∙ passes-tells done (λ m n. either m n ≡ 1) w0 w1 (done_one w0 w1) places places reserved_rows
+        ordinary_rows tested
 
 -- ---- lookups
 

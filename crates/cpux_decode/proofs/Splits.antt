@@ -27,11 +27,16 @@ count_keep : {A : Type 0} (m v : ℕ) (row : Row A) (rows rest : List (Row A)) (
     length (rows_met rows w0 w1) ≡ length (rows_met rest w0 w1) →
     length (rows_met (row ∷ rows) w0 w1) ≡ length (rows_met (kept_row t (left_row m row) rest) w0 w1)
 count_keep {A} m v row rows rest w0 w1 true h k r =
-    ap (λ (t : Bool). length (kept_row (t && (bit_and w1 row.next_mask == row.next_value)) row (rows_met rows w0 w1)))
+    ap
+        (λ (t : Bool). length
+            (kept_row (t && (bit_and w1 row.next_mask == row.next_value)) row (rows_met rows w0 w1)))
         (test_left w0 row.mask row.value m v h k)
-    ∙ same_kept (meets (left_row m row) w0 w1) row (left_row m row) (rows_met rows w0 w1) (rows_met rest w0 w1) r
+    ∙ same_kept (meets (left_row m row) w0 w1) row (left_row m row) (rows_met rows w0 w1)
+        (rows_met rest w0 w1) r
 count_keep {A} m v row rows rest w0 w1 false h k r =
-    ap (λ (t : Bool). length (kept_row (t && (bit_and w1 row.next_mask == row.next_value)) row (rows_met rows w0 w1)))
+    ap
+        (λ (t : Bool). length
+            (kept_row (t && (bit_and w1 row.next_mask == row.next_value)) row (rows_met rows w0 w1)))
         (test_none w0 row.mask row.value m v h k)
     ∙ r
 
@@ -42,7 +47,8 @@ count_keep_next : {A : Type 0} (m v : ℕ) (row : Row A) (rows rest : List (Row 
 count_keep_next {A} m v row rows rest w0 w1 true h k r =
     ap (λ (t : Bool). length (kept_row ((bit_and w0 row.mask == row.value) && t) row (rows_met rows w0 w1)))
         (test_left w1 row.next_mask row.next_value m v h k)
-    ∙ same_kept (meets (left_row_next m row) w0 w1) row (left_row_next m row) (rows_met rows w0 w1) (rows_met rest w0 w1) r
+    ∙ same_kept (meets (left_row_next m row) w0 w1) row (left_row_next m row) (rows_met rows w0 w1)
+        (rows_met rest w0 w1) r
 count_keep_next {A} m v row rows rest w0 w1 false h k r =
     ap (λ (t : Bool). length (kept_row ((bit_and w0 row.mask == row.value) && t) row (rows_met rows w0 w1)))
         (test_none w1 row.next_mask row.next_value m v h k)

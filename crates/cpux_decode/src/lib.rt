@@ -20,7 +20,7 @@ use classify::classify;
 use fields::instruction;
 pub use forms::{Entry, Form};
 pub use instructions::{Count, Decoded, Rep};
-pub use laws::each_pair_meets_one_row;
+pub use laws::{each_pair_meets_one_row, reserved_for_reasons};
 use operands::{destination_mode, field_3_0, field_11_8, source_mode, source_words};
 pub use operations::{Op1, Op2, OpA, OpS};
 pub use places::Place;
