@@ -1,0 +1,84 @@
+//! The instruction words of the processor: what a word means, and how many words belong to it.
+#![tactic(auto)]
+
+ghost use Rattle.std.specs.Prelude.{◌≡◌, ◌≤◌, ◌↔◌, ℕ, List, IsTrue, false, slice_index, true};
+ghost use Rattle.cpux_decode.specs.Instructions.{decoded, is_extension as is_extension_word, length_of, operand_words as operand_words_of, SameFront};
+ghost use Rattle.cpux_decode.specs.Ranges.{IsInRange};
+ghost use Rattle.cpux_decode.specs.Table.{is_reserved};
+
+mod classify;
+mod fields;
+mod forms;
+mod instructions;
+mod laws;
+mod operands;
+mod operations;
+mod places;
+
+pub use chip_words::Size;
+use classify::classify;
+use fields::instruction;
+pub use forms::{Entry, Form};
+pub use instructions::{Count, Decoded, Rep};
+pub use laws::{each_pair_meets_one_row, reserved_for_reasons};
+use operands::{destination_mode, field_3_0, field_11_8, source_mode, source_words};
+pub use operations::{Op1, Op2, OpA, OpS};
+pub use places::Place;
+
+/// Says whether a word is an extension word, behind which an instruction word stands.
+pub fn is_extension(word: u16) -> bool
+    ensures { result ≡ is_extension_word word }
+{
+    word >> 11 == 3
+}
+
+/// How many words belong to the instruction that begins with these two. Where the first is no extension
+/// word, the second may be any.
+#[tactic(auto, using(crate::proofs::Fronts::lengths), unfolding(crate::specs::Instructions::length_of))]
+pub fn length(w0: u16, w1: u16) -> u32
+    ensures count { result ≡ length_of w0 w1 }
+    ensures least { 1 ≤ result }
+    ensures most { result ≤ 4 }
+
+    // The second word counts behind an extension word alone, and there it belongs to the instruction.
+    ensures alone { is_extension_word w0 ≡ false → (other : ℕ) → length_of w0 other ≡ result }
+    ensures extended { is_extension_word w0 ≡ true → 2 ≤ result }
+{
+    let entry = classify(w0, w1);
+    entry.words as u32 + operand_words(entry.form, w0, w1) as u32
+}
+
+/// The words of the operands by their addressing modes.
+#[tactic(auto, unfolding(crate::specs::Instructions::operand_words))]
+fn operand_words(form: Form, w0: u16, w1: u16) -> u8
+    ensures count { result ≡ operand_words_of form w0 w1 }
+    ensures most { result ≤ 2 }
+{
+    match form {
+        Form::One(_) => source_words(source_mode(w0), field_3_0(w0)),
+        Form::Two(_) => source_words(source_mode(w0), field_11_8(w0)) + destination_mode(w0),
+        Form::LongOne(_) => source_words(source_mode(w1), field_3_0(w1)),
+        Form::LongTwo(_) => source_words(source_mode(w1), field_11_8(w1)) + destination_mode(w1),
+        _ => 0,
+    }
+}
+
+/// The instruction that these words begin with. Words past its length may be any.
+#[tactic(auto, using(crate::proofs::Fronts::fronts, crate::proofs::Reserved::reserved), unfolding(crate::specs::Instructions::decoded))]
+pub fn decode(words: [u16; 4]) -> Decoded
+    ensures instruction { result ≡ decoded words }
+    ensures range { IsInRange result }
+
+    // Reserved exactly where the first two words meet a reserved row of the table.
+    ensures reserved { (result ≡ Decoded.Reserved) ↔ IsTrue (is_reserved (slice_index words 0) (slice_index words 1)) }
+
+    // Words past the length don't count.
+    ensures front { (others : List ℕ) →
+        SameFront (length_of (slice_index words 0) (slice_index words 1)) words others →
+        decoded others ≡ result }
+{
+    instruction(classify(words[0], words[1]).form, words)
+}
+
+#[cfg(test)]
+mod tests;
