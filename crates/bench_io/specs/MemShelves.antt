@@ -1,6 +1,5 @@
 -- What a shelf in memory is.
-use Rattle.std.specs.Prelude.{ℕ, if◌then◌else◌, List, [], ◌∷◌, map, Option, Some, None, String, Vec, string_bytes, bytes_eq}
-use Rattle.std.specs.BTreeMap.{BTreeMap}
+use Rattle.std.specs.Prelude.{ℕ, if◌then◌else◌, List, [], ◌∷◌, map, Some, None, String, Vec, string_bytes, bytes_eq}
 use Rattle.std.specs.Global.{Global}
 use Rattle.bench_io.specs.Shelves.{Find, Files}
 

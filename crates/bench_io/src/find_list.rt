@@ -27,10 +27,11 @@ impl Model for FindList {
     ghost Value = { List Find };
 
     ghost use Rattle.bench_io.specs.FindLists.{numbered};
+    ghost use Rattle.bench_io.specs.declared.find_list.TheConstants.{MOST_FINDS};
 
     ghost view = { λ list. numbered 0 list.entries.items };
 
-    ghost invariant = { λ list. vec_len list.entries ≤ 4294967295 };
+    ghost invariant = { λ list. vec_len list.entries ≤ MOST_FINDS };
 }
 
 #[tactic(auto, using(crate::proofs::Numbers::number_laws))]

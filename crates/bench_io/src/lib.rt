@@ -16,6 +16,7 @@ mod whole_file;
 mod whole_text;
 
 pub use file_shelf::FileShelf;
+pub use find_list::MOST_FINDS;
 pub use mem_shelf::MemShelf;
 pub use mem_sink::MemSink;
 pub use memory::NoMemory;

@@ -153,6 +153,7 @@ impl Shelf for MemShelf {
         let (name, place) = self.finds.find(id);
         let n = match self.files.get(name) {
             Some(file) => copy_rest(file, place, buf),
+            // Not reached: a shelf that has given an id takes no more files, and loses none.
             None => 0,
         };
         self.finds.raise(id, n);
