@@ -1,4 +1,6 @@
-//! The outside of the program: where its files come from and where its text goes, in memory and real.
+//! The outside of the program: where its files come from and where its text goes.
+//!
+//! Both are traits, over memory and over the machine. Each answer's contract says when it comes.
 #![tactic(auto)]
 
 mod file_map;
