@@ -11,9 +11,11 @@ use Rattle.std.proofs.lemmas.Slice.Eq.{bytes_eq-Decides}
 use Rattle.std.proofs.lemmas.Map.Text.{is_eq-slice_cmp, btree_map_updates_text}
 use Rattle.bench_io.specs.MemShelves.{file_named, named_files}
 
+-- the bytes of a file that was looked up
 abbrev pub bytes_of : Option (Vec ℕ Global) → Option (List ℕ)
 bytes_of file = option_map (λ bytes. bytes.items) file
 
+-- the first entry, or what the others have
 first_found : (same : Bool) (bytes : Vec ℕ Global) (found : Option (Vec ℕ Global)) (rest : Option (List ℕ)) → rest ≡ bytes_of found → cond same (Some bytes.items) rest ≡ bytes_of (cond same (Some bytes) found)
 first_found true bytes found rest same_rest = refl
 first_found false bytes found rest same_rest = same_rest

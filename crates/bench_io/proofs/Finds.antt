@@ -1,14 +1,11 @@
 -- Reading one file of a shelf: its find stands at the end of the list, at the bytes that were read.
-use Rattle.std.proofs.Common.{◌≡◌, ℕ, ◌+◌, ◌^◌, ◌<◌, ◌≤◌, true, false, List, [], ◌∷◌, ◌++◌, map, length, take, drop, Option, Some, None, option_map, IfSome, IsSome, refl, sym, ◌∙◌, ap, arith, append-nil, length-append, length-take}
+use Rattle.std.proofs.Common.{◌≡◌, ℕ, ◌+◌, ◌^◌, ◌<◌, ◌≤◌, false, List, [], ◌∷◌, ◌++◌, map, length, take, drop, Option, Some, None, option_map, IfSome, sym, ◌∙◌, ap, arith, append-nil, length-append, length-take}
 use Rattle.std.proofs.lemmas.Bool.Decides.{nat_tests}
 use Rattle.std.proofs.lemmas.List.{take-append-drop, length-take-le}
 use Rattle.std.proofs.Math.Seq.{take-add, take-append_seam, drop-append_seam}
 use Rattle.bench_io.specs.Shelves.{Find, Files, is_given, find_of, moved, rest_of, places_since}
 
-pub is_given-last : (finds : List Find) (find : Find) → is_given find.id (finds ++ find ∷ []) ≡ true
-is_given-last [] find = grind (arith, nat_tests)
-is_given-last (first ∷ finds) find = grind (arith, nat_tests, is_given-last finds find)
-
+-- the find behind those before is that of its id, where none of them has it
 pub find_of-last : (finds : List Find) (find : Find) → is_given find.id finds ≡ false → find_of find.id (finds ++ find ∷ []) ≡ Some find
 find_of-last [] find fresh = grind (arith, nat_tests)
 find_of-last (first ∷ finds) find fresh = grind (arith, nat_tests, fresh, find_of-last finds find)
@@ -32,17 +29,6 @@ pub record IsReading (told : Option Files) (before now : List Find) (id : ℕ) (
 pub length_read : (n : ℕ) (bytes piece : List ℕ) → n ≤ length piece → length (bytes ++ take n piece) ≡ length bytes + n
 length_read n bytes piece within = length-append bytes (take n piece) ∙ ap (λ k. length bytes + k) (length-take-le n piece within)
 
-value_of : (o : Option (List ℕ)) → IsSome o → (file : List ℕ) × (o ≡ Some file)
-value_of None there = cc
-value_of (Some file) there = (file, refl)
-
--- a file that is there has a front of no bytes
-front_at_first : (told : Option Files) (name : List ℕ) → IfSome told (λ all. IsSome (all name)) → IfSome told (λ all. IsFront all name [])
-front_at_first None name there = tt
-front_at_first (Some all) name there =
-    let file : (file : List ℕ) × (all name ≡ Some file) = value_of (all name) there in
-    (file.0, file.1, refl)
-
 -- the front grows by what was read of the rest
 front_grows : (told : Option Files) (now : List Find) (id n : ℕ) (name bytes piece : List ℕ) → find_of id now ≡ Some (record { id = id; name = name; place = length bytes }) → n ≤ length piece → IfSome told (λ all. IsFront all name bytes) → IfSome (rest_of told now id) (λ rest. take n piece ≡ take n rest) → IfSome told (λ all. IsFront all name (bytes ++ take n piece))
 front_grows None now id n name bytes piece found within front read = tt
@@ -65,11 +51,7 @@ front_fits None name bytes limit long front = tt
 front_fits (Some all) name bytes limit long (file, named, is_front) = rw named (omega (arith, simp length-take at (ap length is_front)))
 
 module _ {told : Option Files} {before now : List Find} {id : ℕ} {name bytes : List ℕ} (reading : IsReading told before now id name bytes) where
-  -- the id may be read
-  pub is_given-reading : is_given id now ≡ true
-  is_given-reading = rw reading.stands (is_given-last before (record { id = id; name = name; place = length bytes }))
-
-  -- what is left is what is left of the file from the bytes on
+  -- the id's find stands at the bytes that were read
   pub find_of-reading : find_of id now ≡ Some (record { id = id; name = name; place = length bytes })
   find_of-reading = rw reading.stands (find_of-last before (record { id = id; name = name; place = length bytes }) reading.fresh)
 
@@ -77,6 +59,7 @@ module _ {told : Option Files} {before now : List Find} {id : ℕ} {name bytes :
   pub earlier : take (length before) now ≡ before
   earlier = rw reading.stands (take-append_seam before (record { id = id; name = name; place = length bytes } ∷ []))
 
+  -- one find was added
   pub adds_one : length now ≤ length before + 1
   adds_one = rw reading.stands (simp length-append (omega arith))
 
@@ -99,11 +82,3 @@ module _ {told : Option Files} {before now : List Find} {id : ℕ} {name bytes :
     stands = moves ∙ ap (moved id n) reading.stands ∙ moved-last before id n name (length bytes) reading.fresh small ∙ ap (λ place. before ++ record { id = id; name = name; place = place } ∷ []) (sym (length_read n bytes piece within));
     front = front_grows told now id n name bytes piece find_of-reading within reading.front read;
   }
-
--- the find of a file that is there
-pub begun : (told : Option Files) (before now : List Find) (id : ℕ) (name : List ℕ) → is_given id before ≡ false → now ≡ before ++ record { id = id; name = name; place = 0 } ∷ [] → IfSome told (λ all. IsSome (all name)) → IsReading told before now id name []
-begun told before now id name fresh stands there = record {
-  fresh = fresh;
-  stands = stands;
-  front = front_at_first told name there;
-}

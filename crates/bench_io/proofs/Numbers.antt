@@ -5,6 +5,7 @@ use Rattle.bench_io.specs.Shelves.{Find, is_given, find_of, moved}
 use Rattle.bench_io.specs.FindLists.{numbered}
 use Rattle.bench_io.specs.declared.find_list.Entry.{Entry}
 
+-- a find an entry
 pub length-numbered : (entries : List Entry) (k : ℕ) → length (numbered k entries) ≡ length entries
 length-numbered [] k = refl
 length-numbered (entry ∷ entries) k = grind (arith, length-numbered entries (k + 1))
@@ -19,10 +20,12 @@ pub not_given_yet : (entries : List Entry) (k id : ℕ) → k + length entries �
 not_given_yet [] k id past = refl
 not_given_yet (entry ∷ entries) k id past = grind (arith, nat_tests, past, not_given_yet entries (k + 1) id)
 
+-- a last entry is a last find, with the next id
 pub numbered-last : (entries : List Entry) (k : ℕ) (last : Entry) → numbered k (entries ++ last ∷ []) ≡ numbered k entries ++ record { id = k + length entries; name = string_bytes last.name; place = last.place } ∷ []
 numbered-last [] k last = grind arith
 numbered-last (entry ∷ entries) k last = grind (arith, numbered-last entries (k + 1) last)
 
+-- an id's find is the entry at its place
 pub find_of-numbered : (entries : List Entry) (k i id : ℕ) (d : Entry) → id ≡ k + i → i < length entries → find_of id (numbered k entries) ≡ Some (record { id = id; name = string_bytes (get_or entries i d).name; place = (get_or entries i d).place })
 find_of-numbered [] k i id d counts within = absurd (omega (arith, within))
 find_of-numbered (entry ∷ entries) k zero id d counts within = grind (arith, nat_tests, counts)
@@ -39,8 +42,10 @@ moved-numbered [] k i id n d e counts within name place = absurd (omega (arith, 
 moved-numbered (entry ∷ entries) k zero id n d e counts within name place = grind (arith, nat_tests, counts, name, place, moved-past entries (k + 1) id n)
 moved-numbered (entry ∷ entries) k (suc i) id n d e counts within name place = grind (arith, nat_tests, counts, within, name, place, moved-numbered entries (k + 1) i id n d e)
 
+-- no find comes or goes by a read
 pub length-moved : (finds : List Find) (id n : ℕ) → length (moved id n finds) ≡ length finds
 length-moved [] id n = refl
 length-moved (find ∷ finds) id n = grind (arith, length-moved finds id n)
 
+-- what FindList's calls rest on
 pub ruleset number_laws = (length-numbered, below_given, not_given_yet, numbered-last)

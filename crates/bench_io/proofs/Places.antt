@@ -3,6 +3,7 @@ use Rattle.std.proofs.Common.{◌≡◌, ℕ, ◌+◌, ◌≤◌, List, [], ◌�
 use Rattle.std.proofs.lemmas.List.{take-append-drop, drop-append-le, map-append, length-map, get_or_past}
 use Rattle.bench_io.specs.Shelves.{Find, places_since}
 
+-- how far a find was read
 abbrev place_of : Find → ℕ
 place_of find = find.place
 

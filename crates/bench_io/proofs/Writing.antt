@@ -5,10 +5,12 @@ use Rattle.std.proofs.lemmas.List.{take-append-le, take_rest}
 use Rattle.std.proofs.Math.Seq.{take-add, take-append-add}
 use Rattle.bench_io.specs.Sinks.{appended, AppendsFront}
 
+-- no bytes more
 pub appended-none : (old : Option (List ℕ)) → appended old [] ≡ old
 appended-none None = refl
 appended-none (Some old) = grind (arith, common_steps)
 
+-- two pieces are one
 pub appended-appended : (old : Option (List ℕ)) (xs ys : List ℕ) → appended (appended old xs) ys ≡ appended old (xs ++ ys)
 appended-appended None xs ys = refl
 appended-appended (Some old) xs ys = ap Some (append_assoc old xs ys)

@@ -1,9 +1,9 @@
 -- What a shelf in memory is.
 use Rattle.std.specs.Prelude.{ℕ, if◌then◌else◌, List, [], ◌∷◌, map, Option, Some, None, String, Vec, string_bytes, bytes_eq}
-use Rattle.std.specs.BTreeMap.{BTreeMap}
 use Rattle.std.specs.Global.{Global}
-use Rattle.bench_io.specs.Shelves.{Find, Files}
+use Rattle.bench_io.specs.Shelves.{Find, Files, rest_of}
 
+-- a file under its name
 pub record NamedFile : Type 0 where
   pub name : List ℕ
   pub bytes : List ℕ
@@ -24,3 +24,17 @@ pub record MemShelfState : Type 0 where
   pub failing : List ℕ
   pub calls : ℕ
   pub faults : ℕ
+
+-- a shelf that has no file yet
+abbrev pub empty_shelf : MemShelfState
+empty_shelf = record {
+  files = [];
+  finds = [];
+  failing = [];
+  calls = 0;
+  faults = 0;
+}
+
+-- what is left to read under an id
+abbrev pub rest_in : MemShelfState → ℕ → Option (List ℕ)
+rest_in shelf id = rest_of (Some (file_named shelf.files)) shelf.finds id

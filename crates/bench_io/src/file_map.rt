@@ -43,7 +43,8 @@ impl FileMap {
     /// Puts a copy of the bytes under a name, in the place of those that were there.
     pub fn put(&mut self, alloc: Global, name: &str, bytes: &[u8]) -> Result<(), NoMemory>
         ensures named { OnOk result (file_named self.new name.now ≡ Some bytes.now) }
-        ensures others { (other : List ℕ) → other ≢ name.now → file_named self.new other ≡ file_named self.old other }
+        ensures others { (other : List ℕ) → other ≢ name.now →
+            file_named self.new other ≡ file_named self.old other }
         ensures err { OnErr result (self.new ≡ self.old) }
     {
         let Ok(name) = String::from_str(alloc, name) else {

@@ -7,7 +7,9 @@ use std::alloc::Global;
 use std::fs::File;
 use std::io::{ErrorKind, Read};
 
-/// The files of the machine, named by their paths. It tells no content, and has no buffer of its own.
+/// The files of the machine, named by their paths.
+///
+/// It tells no content, and has no buffer of its own.
 #[derive(Drop)]
 pub struct FileShelf {
     rt: HostRuntime,
@@ -97,7 +99,9 @@ enum Refusal {
     Fault,
 }
 
-/// What an error of opening a file says. A folder on the path that is none, or a right that lacks, is a fault.
+/// What an error of opening a file says.
+///
+/// A file in the place of a folder and a right that lacks are faults.
 fn refusal_of(kind: ErrorKind) -> Refusal
     ensures absent { (result ≡ Refusal.Absent) ↔ (kind ≡ ErrorKind.NotFound) }
     ensures memory { (result ≡ Refusal.NoMemory) ↔ (kind ≡ ErrorKind.OutOfMemory) }

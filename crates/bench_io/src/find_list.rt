@@ -27,10 +27,11 @@ impl Model for FindList {
     ghost Value = { List Find };
 
     ghost use Rattle.bench_io.specs.FindLists.{numbered};
+    ghost use Rattle.bench_io.specs.declared.find_list.TheConstants.{MOST_FINDS};
 
     ghost view = { λ list. numbered 0 list.entries.items };
 
-    ghost invariant = { λ list. vec_len list.entries ≤ 4294967295 };
+    ghost invariant = { λ list. vec_len list.entries ≤ MOST_FINDS };
 }
 
 #[tactic(auto, using(crate::proofs::Numbers::number_laws))]
@@ -54,7 +55,8 @@ impl FindList {
     /// Adds a find, at place 0, and gives its id.
     pub fn add(&mut self, name: String) -> Result<u32, NoMemory>
         requires { length self.old < MOST_FINDS }
-        ensures ok { IfOk result (λ id. self.new ≡ self.old ++ record { id = id; name = string_bytes name; place = 0 } ∷ []) }
+        ensures ok { IfOk result (λ id.
+            self.new ≡ self.old ++ record { id = id; name = string_bytes name; place = 0 } ∷ []) }
         ensures new { IfOk result (λ id. is_given id self.old ≡ false) }
         ensures next { IfOk result (λ id. id ≡ length self.old) }
         ensures err { OnErr result (self.new ≡ self.old) }
@@ -79,7 +81,8 @@ impl FindList {
     /// The name and the place of a find.
     pub fn find(&self, id: u32) -> (&str, u64)
         requires { IsTrue (is_given id self.now) }
-        ensures { find_of id self.now ≡ Some (record { id = id; name = result.0.now; place = result.1 }) }
+        ensures { find_of id self.now
+            ≡ Some (record { id = id; name = result.0.now; place = result.1 }) }
     {
         let entry = &self.entries[id as usize];
         (entry.name.as_str(), entry.place)

@@ -1,4 +1,6 @@
-//! The outside of the program: where its files come from and where its text goes, in memory and real.
+//! The outside of the program: where its files come from and where its text goes.
+//!
+//! Both are traits, over memory and over the machine. Each answer's contract says when it comes.
 #![tactic(auto)]
 
 mod file_map;
@@ -16,6 +18,7 @@ mod whole_file;
 mod whole_text;
 
 pub use file_shelf::FileShelf;
+pub use find_list::MOST_FINDS;
 pub use mem_shelf::MemShelf;
 pub use mem_sink::MemSink;
 pub use memory::NoMemory;

@@ -1,7 +1,7 @@
 ghost use Rattle.std.specs.Prelude.{◌≡◌, ◌≢◌, ℕ, ◌+◌, ◌-◌, ◌<◌, ◌≤◌, ◌⊎◌, ◌↔◌, min, List, [], ◌∷◌, ◌++◌, length, take, drop, false, Some, None, IsTrue, IsSome, IfSome, IfOk, OnOk, OnErr, Contains};
 ghost use Rattle.bench_io.specs.Faults.{raised};
-ghost use Rattle.bench_io.specs.Shelves.{is_given, find_of, moved, rest_at, IfHere, UnlessHere, IfAbsent, IfFailed, UnlessFailed, IfCount, IfNoBytes};
-ghost use Rattle.bench_io.specs.MemShelves.{file_named};
+ghost use Rattle.bench_io.specs.Shelves.{is_given, moved, IfHere, UnlessHere, IfAbsent, IfFailed, UnlessFailed, IfCount, IfNoBytes};
+ghost use Rattle.bench_io.specs.MemShelves.{file_named, empty_shelf, rest_in};
 
 use crate::file_map::FileMap;
 use crate::find_list::{FindList, MOST_FINDS};
@@ -38,7 +38,7 @@ impl Model for MemShelf {
 impl MemShelf {
     /// An empty shelf.
     pub fn build(alloc: Global) -> Result<MemShelf, NoMemory>
-        ensures { IfOk result (λ shelf. shelf ≡ record { files = []; finds = []; failing = []; calls = 0; faults = 0 }) }
+        ensures { IfOk result (λ shelf. shelf ≡ empty_shelf) }
     {
         Ok(MemShelf {
             alloc,
@@ -50,7 +50,9 @@ impl MemShelf {
         })
     }
 
-    /// Puts a file on a shelf that has given no id yet. A later file of the same name takes its place.
+    /// Puts a file on a shelf that has given no id yet.
+    ///
+    /// A later file of the same name takes its place.
     pub fn add(&mut self, name: &str, bytes: &[u8]) -> Result<(), NoMemory>
         requires { self.old.finds ≡ [] }
         ensures named { OnOk result (file_named self.new.files name.now ≡ Some bytes.now) }
@@ -64,7 +66,8 @@ impl MemShelf {
 
     /// Lets a call fail. The finds and the reads are counted together, from 1.
     pub fn fail(&mut self, call: u64) -> Result<(), NoMemory>
-        ensures ok { OnOk result (self.new ≡ record self.old { failing = self.old.failing ++ call ∷ [] }) }
+        ensures ok { OnOk result
+            (self.new ≡ record self.old { failing = self.old.failing ++ call ∷ [] }) }
         ensures err { OnErr result (self.new ≡ self.old) }
     {
         match self.failing.push(call) {
@@ -83,8 +86,8 @@ impl Shelf for MemShelf {
 
     fn find(&mut self, name: &str) -> Found
         // The call's number is listed, or no id is left.
-        ensures exactly { (result ≡ Found.Failed) ↔ (Contains self.old.failing (raised self.old.calls)
-            ⊎ (length self.old.finds ≡ MOST_FINDS)) }
+        ensures exactly { (result ≡ Found.Failed)
+            ↔ (Contains self.old.failing (raised self.old.calls) ⊎ (length self.old.finds ≡ MOST_FINDS)) }
 
         ensures here { IfHere result (λ id. self.new ≡ record self.old {
           finds = self.old.finds ++ record { id = id; name = name.now; place = 0 } ∷ [];
@@ -93,7 +96,8 @@ impl Shelf for MemShelf {
         ensures new { IfHere result (λ id. is_given id self.old.finds ≡ false) }
         ensures told { IfHere result (λ id. IsSome (file_named self.old.files name.now)) }
         ensures absent { IfAbsent result (file_named self.old.files name.now ≡ None) }
-        ensures unmoved { UnlessHere result (UnlessFailed result (self.new ≡ record self.old { calls = raised self.old.calls })) }
+        ensures unmoved { UnlessHere result (UnlessFailed result
+            (self.new ≡ record self.old { calls = raised self.old.calls })) }
 
         ensures failed { IfFailed result (self.new ≡ record self.old {
           calls = raised self.old.calls;
@@ -124,16 +128,17 @@ impl Shelf for MemShelf {
 
     fn read(&mut self, id: u32, buf: &mut [u8]) -> Got
         requires { IsTrue (is_given id self.old.finds) }
-        ensures exactly { (result ≡ Got.Failed) ↔ Contains self.old.failing (raised self.old.calls) }
+        ensures exactly { (result ≡ Got.Failed)
+            ↔ Contains self.old.failing (raised self.old.calls) }
 
         // As much is read as fits, or as is left.
         ensures within { IfCount result (λ n. n ≤ length buf.old) }
-        ensures told { IfCount result (λ n. IfSome (rest_at (file_named self.old.files) (find_of id self.old.finds))
+        ensures told { IfCount result (λ n. IfSome (rest_in self.old id)
             (λ rest. take n buf.new ≡ take n rest)) }
-        ensures most { IfCount result (λ n. IfSome (rest_at (file_named self.old.files) (find_of id self.old.finds))
+        ensures most { IfCount result (λ n. IfSome (rest_in self.old id)
             (λ rest. n ≡ min (length buf.old) (length rest))) }
         ensures end { IfCount result (λ n. n ≡ 0 → 0 < length buf.old →
-            IfSome (rest_at (file_named self.old.files) (find_of id self.old.finds)) (λ rest. rest ≡ [])) }
+            IfSome (rest_in self.old id) (λ rest. rest ≡ [])) }
         ensures moved { IfCount result (λ n. self.new ≡ record self.old {
           finds = moved id n self.old.finds;
           calls = raised self.old.calls;
@@ -153,6 +158,7 @@ impl Shelf for MemShelf {
         let (name, place) = self.finds.find(id);
         let n = match self.files.get(name) {
             Some(file) => copy_rest(file, place, buf),
+            // Not reached: a shelf that has given an id takes no more files, and loses none.
             None => 0,
         };
         self.finds.raise(id, n);

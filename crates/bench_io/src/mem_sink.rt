@@ -1,6 +1,7 @@
 ghost use Rattle.std.specs.Prelude.{◌≡◌, ℕ, ◌+◌, ◌-◌, ◌<◌, ◌≤◌, ◌⊎◌, ◌↔◌, min, [], ◌∷◌, ◌++◌, length, take, Some, IfOk, OnOk, OnErr, Contains};
 ghost use Rattle.bench_io.specs.Faults.{raised};
 ghost use Rattle.bench_io.specs.Sinks.{IfTaken, IfRefused};
+ghost use Rattle.bench_io.specs.MemSinks.{empty_sink};
 
 use crate::memory::NoMemory;
 use crate::sinks::{Sink, Took};
@@ -31,13 +32,14 @@ impl Model for MemSink {
       faults = sink.faults;
     } };
 
-    ghost invariant = { λ sink. (vec_len sink.bytes ≤ sink.room) × (sink.room ≤ vec_capacity sink.bytes) };
+    ghost invariant = { λ sink.
+        (vec_len sink.bytes ≤ sink.room) × (sink.room ≤ vec_capacity sink.bytes) };
 }
 
 impl MemSink {
     /// An empty sink that takes `room` bytes in all.
     pub fn build(alloc: Global, room: usize) -> Result<MemSink, NoMemory>
-        ensures { IfOk result (λ sink. sink ≡ record { bytes = []; room = room; failing = []; calls = 0; faults = 0 }) }
+        ensures { IfOk result (λ sink. sink ≡ empty_sink room) }
     {
         match Vec::with_capacity(alloc, room) {
             Ok(bytes) => Ok(MemSink {
@@ -53,7 +55,8 @@ impl MemSink {
 
     /// Lets a put fail. The puts are counted from 1.
     pub fn fail(&mut self, call: u64) -> Result<(), NoMemory>
-        ensures ok { OnOk result (self.new ≡ record self.old { failing = self.old.failing ++ call ∷ [] }) }
+        ensures ok { OnOk result
+            (self.new ≡ record self.old { failing = self.old.failing ++ call ∷ [] }) }
         ensures err { OnErr result (self.new ≡ self.old) }
     {
         match self.failing.push(call) {
@@ -77,11 +80,13 @@ impl Sink for MemSink {
 
     fn put(&mut self, piece: &[u8]) -> Took
         // The call's number is listed, or the piece isn't empty and no room is left.
-        ensures exactly { (result ≡ Took.Failed) ↔ (Contains self.old.failing (raised self.old.calls)
+        ensures exactly { (result ≡ Took.Failed)
+            ↔ (Contains self.old.failing (raised self.old.calls)
             ⊎ ((0 < length piece.now) × (length self.old.bytes ≡ self.old.room))) }
 
         // As much is taken as fits.
-        ensures most { IfTaken result (λ n. n ≡ min (length piece.now) (self.old.room - length self.old.bytes)) }
+        ensures most { IfTaken result (λ n.
+            n ≡ min (length piece.now) (self.old.room - length self.old.bytes)) }
         ensures some { IfTaken result (λ n. n ≡ 0 → length piece.now ≡ 0) }
         ensures taken { IfTaken result (λ n. self.new ≡ record self.old {
           bytes = self.old.bytes ++ take n piece.now;

@@ -41,9 +41,11 @@ pub trait Shelf {
         ensures later { faults self.old ≤ faults self.new }
 
         ensures here { IfHere result (λ id.
-            finds self.new ≡ finds self.old ++ record { id = id; name = name.now; place = 0 } ∷ []) }
+            finds self.new
+            ≡ finds self.old ++ record { id = id; name = name.now; place = 0 } ∷ []) }
         ensures new { IfHere result (λ id. is_given id (finds self.old) ≡ false) }
-        ensures told { IfHere result (λ id. IfSome (files self.old) (λ all. IsSome (all name.now))) }
+        ensures told { IfHere result (λ id.
+            IfSome (files self.old) (λ all. IsSome (all name.now))) }
 
         ensures absent { IfAbsent result (IfSome (files self.old) (λ all. all name.now ≡ None)) }
         ensures failed { IfFailed result (Rose (faults self.old) (faults self.new)) }
@@ -59,7 +61,8 @@ pub trait Shelf {
         ensures within { IfCount result (λ n. n ≤ length buf.old) }
         ensures moved { IfCount result (λ n. finds self.new ≡ moved id n (finds self.old)) }
         ensures told { IfCount result (λ n.
-            IfSome (rest_of (files self.old) (finds self.old) id) (λ rest. take n buf.new ≡ take n rest)) }
+            IfSome (rest_of (files self.old) (finds self.old) id)
+            (λ rest. take n buf.new ≡ take n rest)) }
         ensures end { IfCount result (λ n. n ≡ 0 → 0 < length buf.old →
             IfSome (rest_of (files self.old) (finds self.old) id) (λ rest. rest ≡ [])) }
 

@@ -5,7 +5,9 @@ ghost use Rattle.bench_io.specs.Sinks.{appended, IfTaken, IfRefused};
 /// What a sink answers to a piece of text.
 #[derive(Clone, Copy, Debug, PartialEq, Eq)]
 pub enum Took {
-    /// So many bytes of the piece's front were written. None of a piece that has some counts as a fault.
+    /// So many bytes of the piece's front were written.
+    ///
+    /// None of a piece that has some counts as a fault.
     Count(usize),
     /// Nothing was written, which counts as a fault.
     Failed,
@@ -24,10 +26,13 @@ pub trait Sink {
         ensures later { faults self.old ≤ faults self.new }
 
         ensures within { IfTaken result (λ n. n ≤ length piece.now) }
-        ensures taken { IfTaken result (λ n. written self.new ≡ appended (written self.old) (take n piece.now)) }
-        ensures stuck { IfTaken result (λ n. n ≡ 0 → 0 < length piece.now → Rose (faults self.old) (faults self.new)) }
+        ensures taken { IfTaken result (λ n.
+            written self.new ≡ appended (written self.old) (take n piece.now)) }
+        ensures stuck { IfTaken result (λ n.
+            n ≡ 0 → 0 < length piece.now → Rose (faults self.old) (faults self.new)) }
         ensures uncounted { IfTaken result (λ n. 0 < n → faults self.new ≡ faults self.old) }
-        ensures idle { length piece.now ≡ 0 → IfTaken result (λ n. faults self.new ≡ faults self.old) }
+        ensures idle { length piece.now ≡ 0 →
+            IfTaken result (λ n. faults self.new ≡ faults self.old) }
 
         ensures failed { IfRefused result (Rose (faults self.old) (faults self.new)) }
         ensures nothing { IfRefused result (written self.new ≡ written self.old) };

@@ -52,14 +52,20 @@ pub fn read_file<S: Shelf>(
     ensures one { length (S.finds shelf.new) ≤ length (S.finds shelf.old) + 1 }
     ensures stops { slice_index (places_since (S.finds shelf.old) (S.finds shelf.new)) 0 ≤ limit + 1 }
 
-    ensures told { IfOk result (λ bytes. IfSome (S.files shelf.old) (λ all. all name.now ≡ Some bytes.items)) }
-    ensures place { IfOk result (λ bytes. places_since (S.finds shelf.old) (S.finds shelf.new) ≡ vec_len bytes ∷ []) }
+    ensures told { IfOk result (λ bytes.
+        IfSome (S.files shelf.old) (λ all. all name.now ≡ Some bytes.items)) }
+    ensures place { IfOk result (λ bytes.
+        places_since (S.finds shelf.old) (S.finds shelf.new) ≡ vec_len bytes ∷ []) }
     ensures uncounted { IfOk result (λ bytes. S.faults shelf.new ≡ S.faults shelf.old) }
 
-    ensures absent { IsErrOf result FileRefused.Absent → IfSome (S.files shelf.old) (λ all. all name.now ≡ None) }
-    ensures fault { IsErrOf result FileRefused.ReadFault → Rose (S.faults shelf.old) (S.faults shelf.new) }
-    ensures too_long { IsErrOf result FileRefused.TooLong ↔ (limit < slice_index (places_since (S.finds shelf.old) (S.finds shelf.new)) 0) }
-    ensures long { IsErrOf result FileRefused.TooLong → IfSome (S.files shelf.old) (λ all. IfSome (all name.now) (λ file. limit < length file)) }
+    ensures absent { IsErrOf result FileRefused.Absent →
+        IfSome (S.files shelf.old) (λ all. all name.now ≡ None) }
+    ensures fault { IsErrOf result FileRefused.ReadFault →
+        Rose (S.faults shelf.old) (S.faults shelf.new) }
+    ensures too_long { IsErrOf result FileRefused.TooLong
+        ↔ (limit < slice_index (places_since (S.finds shelf.old) (S.finds shelf.new)) 0) }
+    ensures long { IsErrOf result FileRefused.TooLong → IfSome (S.files shelf.old)
+        (λ all. IfSome (all name.now) (λ file. limit < length file)) }
 {
     let id = match shelf.find(name) {
         Found::Here(id) => id,
@@ -99,7 +105,8 @@ fn read_piece<S: Shelf>(shelf: &mut S, id: u32, piece: &mut [u8; PIECE], most: u
     ensures within { IfCount result (λ n. (n ≤ most) × (n ≤ PIECE)) }
     ensures moved { IfCount result (λ n. S.finds shelf.new ≡ moved id n (S.finds shelf.old)) }
     ensures told { IfCount result (λ n.
-        IfSome (rest_of (S.files shelf.old) (S.finds shelf.old) id) (λ rest. take n piece.new ≡ take n rest)) }
+        IfSome (rest_of (S.files shelf.old) (S.finds shelf.old) id)
+        (λ rest. take n piece.new ≡ take n rest)) }
     ensures end { IfCount result (λ n. n ≡ 0 →
         IfSome (rest_of (S.files shelf.old) (S.finds shelf.old) id) (λ rest. rest ≡ [])) }
 

@@ -1,4 +1,4 @@
-use Rattle.std.proofs.Common.{Some, sym, ◌∙◌, ap}
+use Rattle.std.proofs.Common.{Some, ◌∙◌, ap}
 use Rattle.bench_io.specs.MemShelves.{file_named}
 use Rattle.bench_io.proofs.FileMaps.{file_named-put, file_named-other}
 use Rattle.bench_io.proofs.file_map.FileMap.put.Goals as goal
