@@ -1,7 +1,6 @@
 -- The reserved rows are met exactly where a reason is.
-use Rattle.std.proofs.Common.{◌≡◌, ℕ, zero, suc, Bool, true, false, List, [], ◌∷◌, length, refl, ap, sym, ◌∙◌, ◌&&◌, ◌||◌, map}
+use Rattle.std.proofs.Common.{◌≡◌, ℕ, zero, suc, Bool, true, false, List, [], ◌∷◌, length, refl, sym, ◌∙◌, ◌&&◌, ◌||◌}
 use Rattle.std.specs.List.{list_any}
-use Rattle.cpux_decode.specs.declared.forms.Entry.{Entry}
 use Rattle.cpux_decode.specs.Rows.{Row, meets, kept_row, rows_met}
 use Rattle.cpux_decode.specs.Table.{reserved_rows, is_reserved, reserved_one_operand_rows, reserved_call_rows, reserved_extended_rows, reserved_before_rows, reserved_width_rows, reserved_operand_rows}
 use Rattle.cpux_decode.specs.Reasons.{unassigned, bytes, constants_written, reasons_alone, not_extended, reserved_without, no_width, one_width, reasons, has_reason, ReservedForReasons}
