@@ -123,21 +123,16 @@ fn writes_the_trace_of_an_image(rt: HostRuntime) -> Result<(), Fail> {
 fn refuses_by_cause(rt: HostRuntime) -> Result<(), Fail> {
     let blink = image(rt.alloc(), &[(0x4400, &BLINK), (0xFFFE, &VECTOR)])?;
     let file = blink.as_slice();
-    let words: [&[&str]; 6] = [
-        &[],
-        &["run"],
-        &["walk", "image"],
-        &["run", "image", "image"],
-        &["RUN", "image"],
-        &["", "image"],
-    ];
-    for words in words {
-        Case {
-            words,
-            ..run_of(file)
-        }
-        .gives(&rt, Status::Usage, "")?;
-    }
+    let usage = |words| Case {
+        words,
+        ..run_of(file)
+    };
+    usage(&[]).gives(&rt, Status::Usage, "")?;
+    usage(&["run"]).gives(&rt, Status::Usage, "")?;
+    usage(&["walk", "image"]).gives(&rt, Status::Usage, "")?;
+    usage(&["run", "image", "image"]).gives(&rt, Status::Usage, "")?;
+    usage(&["RUN", "image"]).gives(&rt, Status::Usage, "")?;
+    usage(&["", "image"]).gives(&rt, Status::Usage, "")?;
     Case {
         words: &["run", "none"],
         ..run_of(file)
