@@ -1,2 +1,11 @@
 pub mod Sizes
 pub mod Map
+pub mod Memory
+pub mod Registers
+pub mod Bits
+pub mod Sys
+pub mod Ports
+pub mod Units
+pub mod BusPart
+pub mod Access
+pub mod Script

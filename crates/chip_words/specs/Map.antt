@@ -48,3 +48,10 @@ is_fram at = keeps_without_power (region_at at)
 abbrev pub aligned : Size → ℕ → ℕ
 aligned Byte at = at
 aligned size at = at - at % 2
+
+-- a region whose addresses hold bytes
+abbrev pub has_bytes : Region → Bool
+has_bytes Info = true
+has_bytes Sram = true
+has_bytes Main = true
+has_bytes region = false

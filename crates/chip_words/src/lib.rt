@@ -1,13 +1,17 @@
-//! The words that every part of the chip shares: widths, agents, accesses, the bus and the registers,
-//! with the definitions of the memory map, of the peripherals and of one access.
+//! The words that every part of the chip shares: widths, agents, accesses, the registers and the bus,
+//! with the definitions of the memory map, of the peripherals, of one access and of a step.
 #![tactic(auto)]
 
 mod accesses;
+mod buses;
 mod memory;
 mod regions;
+mod registers;
 mod sizes;
 
 pub use accesses::{Access, Agent, Kind};
+pub use buses::Bus;
 pub use memory::NoMemory;
 pub use regions::Region;
-pub use sizes::Size;
+pub use registers::Regs;
+pub use sizes::{Size, wrap20};

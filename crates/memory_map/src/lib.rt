@@ -1,8 +1,8 @@
 //! The memory map as calls. No crate above spells a region's bounds: they are constants here.
 #![tactic(auto)]
 
-ghost use Rattle.std.specs.Prelude.{◌≡◌, ◌<◌};
-ghost use Rattle.chip_words.specs.Map.{region_at, is_fram as is_fram_at, aligned as aligned_at};
+ghost use Rattle.std.specs.Prelude.{◌≡◌, ◌<◌, IsTrue};
+ghost use Rattle.chip_words.specs.Map.{region_at, has_bytes, is_fram as is_fram_at, aligned as aligned_at};
 
 pub use chip_words::{Region, Size};
 
@@ -23,7 +23,10 @@ pub const MAIN_END: u32 = 0x14000;
 #[tactic(auto, unfolding(chip_words::specs::Map::region_at))]
 pub fn region_of(at: u32) -> Region
     requires { at < 0x100000 }
-    ensures { result ≡ region_at at }
+    ensures region { result ≡ region_at at }
+
+    // All memory lies below its end.
+    ensures memory { IsTrue (has_bytes result) → at < 0x14000 }
 {
     match at {
         0x00000..0x01000 => Region::Periph,

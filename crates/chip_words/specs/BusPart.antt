@@ -1,0 +1,20 @@
+-- The part of the chip that an access reads or changes.
+use Rattle.std.specs.Prelude.{◌<◌, List, Bool, length, ℕ}
+use Rattle.chip_words.specs.declared.accesses.Access.{Access}
+use Rattle.chip_words.specs.declared.accesses.Agent.{Agent}
+use Rattle.chip_words.specs.declared.accesses.Agent.TheVariants.{Debug}
+use Rattle.chip_words.specs.Units.{Units}
+
+pub record BusPart : Type 0 where
+  -- the bytes of FRAM and SRAM by address
+  pub memory : List ℕ
+  pub units : Units
+  -- the accesses of the step so far
+  pub accesses : List Access
+  -- an access has met a register that isn't built
+  pub stop : Bool
+
+-- a step has room for one more access; those of the debugger aren't listed
+abbrev pub HasRoom : Agent → BusPart → Type 0
+HasRoom Debug part = Unit {0}
+HasRoom who part = length part.accesses < 64

@@ -1,0 +1,4 @@
+pub mod FramLemmas
+pub mod ImageLemmas
+pub mod SegmentLemmas
+pub mod TableLemmas

@@ -1,0 +1,169 @@
+ghost use Rattle.std.specs.Prelude.{◌≡◌, ◌<◌, ◌≤◌, ℕ, IfErr, IfOk, IsTrue, false, length, map, position, slice_index};
+ghost use Rattle.chip_words.specs.Map.{is_fram};
+ghost use Rattle.elf_image.specs.Elf.{header_of, header_table};
+ghost use Rattle.elf_image.specs.Image.{image_of, leaves, loaded};
+
+use crate::headers::{ELF_HEADER_SIZE, FileHeader, Header, PROGRAM_HEADER_SIZE, begins_as_elf};
+use crate::refusals::ImageRefused;
+use crate::segments::LoadSegment;
+use memory_map::{INFO_END, INFO_START, MAIN_END, MAIN_START};
+use std::marker::Model;
+
+/// What FRAM holds where nothing was written.
+const ERASED: u8 = 0xFF;
+
+/// An executable file.
+const ET_EXEC: u16 = 2;
+/// The number of the MSP430.
+const EM_MSP430: u16 = 105;
+
+/// The program that a file holds: the bytes of FRAM when the chip leaves the programmer.
+///
+/// Contracts see its segments, in the order of the program headers.
+#[derive(Debug, Drop)]
+pub struct Image<'a> {
+    file: &'a [u8],
+    headers: &'a [[u8; PROGRAM_HEADER_SIZE]],
+}
+
+impl<'a> Model for Image<'a> {
+    ghost use Rattle.std.specs.Prelude.{List, ◌≤◌, length, map};
+    ghost use Rattle.elf_image.specs.Image.{Segment, segments};
+    ghost use Rattle.elf_image.specs.Elf.{header_of};
+
+    ghost Value = { List Segment };
+
+    ghost view = { λ image. segments image.file.now (map header_of image.headers.now) };
+
+    ghost invariant = { λ image. length image.headers.now ≤ 0xFFFF };
+}
+
+impl<'a> Image<'a> {
+    ghost use Rattle.elf_image.specs.Image.{byte_of, skipped_of};
+
+    /// The byte of an address of FRAM: the last segment that names the address gives it, and FRAM
+    /// that none names is erased.
+    pub fn byte(&self, at: u32) -> u8
+        requires { IsTrue (is_fram at) }
+        ensures { result ≡ byte_of self.now at }
+    {
+        let mut byte = ERASED;
+        for header in self.headers {
+            if let Some(segment) = LoadSegment::of(self.file, header) {
+                byte = segment.byte(at).unwrap_or(byte);
+            }
+        }
+        byte
+    }
+
+    /// How many bytes of the segments lie off FRAM and are passed over. A byte that several
+    /// segments give counts for each.
+    pub fn skipped(&self) -> u64
+        ensures { result ≡ skipped_of self.now }
+    {
+        let mut skipped = 0;
+        for header in self.headers {
+            if let Some(segment) = LoadSegment::of(self.file, header) {
+                skipped += segment.skipped();
+            }
+        }
+        skipped
+    }
+
+    /// Writes FRAM as the image gives it into a memory by address, and leaves the rest.
+    pub fn load(&self, memory: &mut [u8])
+        requires { length memory.old ≡ MAIN_END }
+        ensures fram { (at : ℕ) → IsTrue (is_fram at) → slice_index memory.new at ≡ byte_of self.now at }
+        ensures others { (at : ℕ) → is_fram at ≡ false → slice_index memory.new at ≡ slice_index memory.old at }
+    {
+        erase(memory);
+        for header in self.headers {
+            if let Some(segment) = LoadSegment::of(self.file, header) {
+                segment.load(memory);
+            }
+        }
+    }
+}
+
+/// Writes the byte of erased FRAM from `low` up to `high`.
+fn erase_within(memory: &mut [u8], low: u32, high: u32)
+    requires order { low ≤ high }
+    requires room { high ≤ length memory.old }
+    ensures inside { (at : ℕ) → low ≤ at → at < high → slice_index memory.new at ≡ ERASED }
+    ensures below { (at : ℕ) → at < low → slice_index memory.new at ≡ slice_index memory.old at }
+    ensures above { (at : ℕ) → high ≤ at → slice_index memory.new at ≡ slice_index memory.old at }
+{
+    memory[low as usize..high as usize].fill(ERASED);
+}
+
+/// Makes FRAM what it is where nothing was written.
+#[tactic(auto, using(crate::proofs::FramLemmas::is_fram_tells))]
+fn erase(memory: &mut [u8])
+    requires { length memory.old ≡ MAIN_END }
+    ensures fram { (at : ℕ) → IsTrue (is_fram at) → slice_index memory.new at ≡ ERASED }
+    ensures others { (at : ℕ) → is_fram at ≡ false → slice_index memory.new at ≡ slice_index memory.old at }
+{
+    erase_within(memory, INFO_START, INFO_END);
+    erase_within(memory, MAIN_START, MAIN_END);
+}
+
+/// The program headers of an executable for the MSP430, or the first refusal that does not need
+/// what they say.
+#[tactic(auto, unfolding(crate::specs::Image::image_of, crate::specs::Elf::header_table))]
+fn read_headers<'a>(file: &'a [u8]) -> Result<&'a [[u8; PROGRAM_HEADER_SIZE]], ImageRefused>
+    ensures refused { IfErr result (λ refused. image_of file.now ≡ Err refused) }
+    ensures table { IfOk result (λ headers. map header_of headers.now ≡ header_table file.now) }
+    ensures few { IfOk result (λ headers. length headers.now ≤ 0xFFFF) }
+    ensures judged { IfOk result (λ headers. image_of file.now ≡ loaded file.now (position (leaves (length file.now)) (header_table file.now))) }
+{
+    let have = file.len();
+    if have < ELF_HEADER_SIZE {
+        return Err(ImageRefused::Short(ELF_HEADER_SIZE as u64, have as u64));
+    }
+    if !begins_as_elf(file) {
+        return Err(ImageRefused::NotElf);
+    }
+    let header = FileHeader::read(file);
+    if header.e_machine != EM_MSP430 {
+        return Err(ImageRefused::NotMsp430(header.e_machine));
+    }
+    if header.e_type != ET_EXEC {
+        return Err(ImageRefused::NotExec(header.e_type));
+    }
+    if header.e_phnum == 0 {
+        return Ok(&[]);
+    }
+    if header.e_phentsize as usize != PROGRAM_HEADER_SIZE {
+        return Err(ImageRefused::BadTable(header.e_phentsize));
+    }
+    let start = header.e_phoff as usize;
+    let need = start + PROGRAM_HEADER_SIZE * header.e_phnum as usize;
+    if have < need {
+        return Err(ImageRefused::Short(need as u64, have as u64));
+    }
+    let (headers, _) = file[start..need].as_chunks();
+    Ok(headers)
+}
+
+/// The index of the first header that loads bytes from behind the end of the file.
+fn first_leaving(headers: &[[u8; PROGRAM_HEADER_SIZE]], end: usize) -> Option<usize>
+    ensures { result ≡ position (λ bytes. leaves end (header_of bytes)) headers.now }
+{
+    headers
+        .iter()
+        .position(|bytes| Header::read(bytes).leaves(end))
+}
+
+/// The image that a file holds, or the first refusal in the order of `ImageRefused`.
+pub fn read_image<'a>(bytes: &'a [u8]) -> Result<Image<'a>, ImageRefused>
+    ensures { result ≡ image_of bytes.now }
+{
+    let headers = read_headers(bytes)?;
+    match first_leaving(headers, bytes.len()) {
+        Some(index) => Err(ImageRefused::BadSegment(index as u32)),
+        None => Ok(Image {
+            file: bytes,
+            headers,
+        }),
+    }
+}

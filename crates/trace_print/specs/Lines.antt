@@ -1,0 +1,26 @@
+-- The lines of a trace.
+use Rattle.std.specs.Prelude.{ℕ, ◌^◌, ◌<◌, ◌≤◌, List, ◌++◌, codes, decimal}
+use Rattle.trace_print.specs.declared.items.TraceItem.{TraceItem}
+use Rattle.trace_print.specs.declared.items.TraceItem.TheVariants.{On, Boot, Dead, Pin, End, Stop}
+use Rattle.trace_print.specs.Digits.{hex_digits}
+use Rattle.trace_print.specs.Levels.{letters_of}
+
+-- the values that a text has room for: borders of 20 bits, and the ports P1 to P4
+abbrev pub IsPrintable : TraceItem → Type 0
+IsPrintable (Boot control first_border second_border) = (first_border < 2 ^ 20) × (second_border < 2 ^ 20)
+IsPrintable (Pin port levels) = (1 ≤ port) × (port ≤ 4)
+IsPrintable _ = Unit {0}
+
+-- what stands behind the tick
+abbrev pub text_of : TraceItem → List ℕ
+text_of On = codes "ON"
+text_of (Boot control first_border second_border) =
+    codes "BOOT " ++ hex_digits 2 control ++ codes " " ++ hex_digits 5 first_border ++ codes " " ++ hex_digits 5 second_border
+text_of Dead = codes "DEAD"
+text_of (Pin port levels) = codes "PIN P" ++ decimal port ++ codes " " ++ letters_of levels
+text_of End = codes "END"
+text_of Stop = codes "STOP"
+
+-- the whole line: the tick in decimal, a space, the text and a line feed
+unfoldable pub line_of : ℕ → TraceItem → List ℕ
+line_of tick item = decimal tick ++ codes " " ++ text_of item ++ codes "\n"

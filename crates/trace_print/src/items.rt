@@ -1,0 +1,21 @@
+use crate::levels::Level;
+
+/// What one line of a trace tells.
+#[derive(Clone, Copy, Debug, Default, PartialEq, Eq)]
+pub enum TraceItem {
+    /// Power came on.
+    #[default]
+    On,
+    /// A boot ended with these in force: the control bits of IP Encapsulation (MPUIPC0), its first and
+    /// its second border as addresses.
+    Boot(u8, u32, u32),
+    /// The reset vector was FFFFh, so the processor stands still.
+    Dead,
+    /// The levels of a port changed: the port's number, from 1 to 4, and the new level of each bit, of
+    /// which entry i is bit i.
+    Pin(u8, [Level; 8]),
+    /// The run is over.
+    End,
+    /// The run ends early, at something that this emulator does not have yet.
+    Stop,
+}

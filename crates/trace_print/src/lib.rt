@@ -1,0 +1,13 @@
+//! The lines of a trace: what one tick of the chip shows, each item as the text of its line.
+#![tactic(auto)]
+
+mod items;
+mod levels;
+mod lines;
+mod pieces;
+#[cfg(test)]
+mod tests;
+
+pub use items::TraceItem;
+pub use levels::Level;
+pub use lines::{Line, trace_line};
