@@ -1,0 +1,4 @@
+pub mod InWidth
+pub mod Overflow
+pub mod Powers
+pub mod Status

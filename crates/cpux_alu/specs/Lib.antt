@@ -1,0 +1,6 @@
+pub mod Effects
+pub mod Sums
+pub mod Decimals
+pub mod Shifts
+pub mod Operations
+pub mod Addresses
