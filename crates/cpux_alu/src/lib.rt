@@ -13,6 +13,8 @@ mod decimals;
 mod effects;
 mod shifts;
 mod sums;
+#[cfg(test)]
+mod tests;
 mod widths;
 
 use cpux_decode::{Op1, Op2, OpA, OpS, Size};
