@@ -1,3 +1,4 @@
+pub mod Exact
 pub mod InWidth
 pub mod Overflow
 pub mod Powers

@@ -13,7 +13,7 @@ sign_turns false false sign = sign
 sign_turns x y sign = false
 
 -- a sum below twice the span, and its remainder
-remainder_is : (span s v : ℕ) → s < 2 * span → v ≡ s % span → (v ≡ s) ⊎ (v + span ≡ s)
+pub remainder_is : (span s v : ℕ) → s < 2 * span → v ≡ s % span → (v ≡ s) ⊎ (v + span ≡ s)
 remainder_is span s v h e = grind (arith, nat_tests, mod-eq_of_lt, mod-eq-sub-mod)
 
 signs_at : (half span x y v : ℕ) (carry : Bool) → span ≡ 2 * half → x < span → y < span → (v ≡ x + y + bit_of carry) ⊎ (v + span ≡ x + y + bit_of carry) → v < span → overflows span x y carry ≡ sign_turns (is_negative span x) (is_negative span y) (is_negative span v)

@@ -4,3 +4,4 @@ pub mod Decimals
 pub mod Shifts
 pub mod Operations
 pub mod Addresses
+pub mod Laws

@@ -11,6 +11,7 @@ ghost use Rattle.cpux_alu.specs.Operations.{GivesResult, addr_status, addr_value
 
 mod decimals;
 mod effects;
+mod laws;
 mod shifts;
 mod sums;
 #[cfg(test)]
@@ -20,6 +21,7 @@ mod widths;
 use cpux_decode::{Op1, Op2, OpA, OpS, Size};
 use decimals::decimal;
 use effects::{Effect, leaving_flags, logical, status};
+pub use laws::{complement_subtracts, decimal_sum_is_exact, signed_sum_is_exact};
 use shifts::{Shifted, shift_once, shift_places, shift_result};
 use sums::sum;
 use widths::{complement, extended_byte, is_negative, mask};
