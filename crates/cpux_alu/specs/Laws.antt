@@ -1,11 +1,13 @@
--- What the sums mean as numbers: the flags tell where a result isn't the number that was asked for.
+-- What sums and shifts mean as numbers: the flags tell where a result isn't the number that was asked for.
 use Rattle.std.specs.Prelude.{◌≡◌, ℕ, zero, suc, ◌+◌, ◌*◌, ◌/◌, ◌%◌, ◌^◌, ◌<◌, pos, ◌+ℤ◌, ◌-ℤ◌, Bool, true, false, nat_le}
 use Rattle.chip_words.specs.declared.sizes.Size.{Size}
 use Rattle.chip_words.specs.Bits.{bit_of}
 use Rattle.chip_words.specs.Sizes.{span}
+use Rattle.cpux_decode.specs.declared.operations.OpS.TheVariants.{Rla, Rru}
 use Rattle.cpux_alu.specs.Effects.{complement}
 use Rattle.cpux_alu.specs.Sums.{signed, leaves_range, overflows}
 use Rattle.cpux_alu.specs.Decimals.{decimal_sum, decimal_carry}
+use Rattle.cpux_alu.specs.Shifts.{with_carry, shift_places}
 
 -- without overflow a sum is the exact sum of the signed values and the carry
 abbrev pub SignedSumIsExact : Type 0
@@ -38,3 +40,11 @@ DecimalSumIsExact =
     (digits x y : ℕ) (carry : Bool) → IsDecimal digits x → IsDecimal digits y →
     decimal_value digits (decimal_sum digits x y carry) + 10 ^ digits * bit_of (decimal_carry digits x y carry)
     ≡ decimal_value digits x + decimal_value digits y + bit_of carry
+
+-- shifts by several places with 0 entering: to the left a product with a power of two, to the right a quotient
+pub record IsScaled (span count x : ℕ) (carry : Bool) : Type 0 where
+  pub left : (shift_places Rla span count (with_carry x carry)).value ≡ x * 2 ^ count % span
+  pub right : (shift_places Rru span count (with_carry x carry)).value ≡ x / 2 ^ count
+
+abbrev pub ShiftsScale : Type 0
+ShiftsScale = (size : Size) (count x : ℕ) (carry : Bool) → x < span size → IsScaled (span size) count x carry

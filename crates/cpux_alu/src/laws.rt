@@ -1,4 +1,4 @@
-ghost use Rattle.cpux_alu.specs.Laws.{ComplementSubtracts, DecimalSumIsExact, SignedSumIsExact};
+ghost use Rattle.cpux_alu.specs.Laws.{ComplementSubtracts, DecimalSumIsExact, ShiftsScale, SignedSumIsExact};
 
 /// Where V is 0, a sum is that of the signed values and the carry.
 #[tactic(auto, using(crate::proofs::Exact::signed_sum_is_exact))]
@@ -17,4 +17,9 @@ pub fn complement_subtracts()
 #[tactic(auto, using(crate::proofs::Exact::decimal_sum_is_exact))]
 pub fn decimal_sum_is_exact()
     ensures { DecimalSumIsExact }
+{}
+
+/// RLAM by several places is a product with a power of two, modulo 2^width, and RRUM a quotient.
+pub fn shifts_scale()
+    ensures { ShiftsScale }
 {}

@@ -21,7 +21,7 @@ mod widths;
 use cpux_decode::{Op1, Op2, OpA, OpS, Size};
 use decimals::decimal;
 use effects::{Effect, leaving_flags, logical, status};
-pub use laws::{complement_subtracts, decimal_sum_is_exact, signed_sum_is_exact};
+pub use laws::{complement_subtracts, decimal_sum_is_exact, shifts_scale, signed_sum_is_exact};
 use shifts::{Shifted, shift_once, shift_places, shift_result};
 use sums::sum;
 use widths::{complement, extended_byte, is_negative, mask};
