@@ -4,7 +4,7 @@ use Rattle.chip_words.specs.declared.sizes.Size.{Size}
 use Rattle.chip_words.specs.declared.sizes.Size.TheVariants.{Byte, Word, Addr}
 use Rattle.chip_words.specs.Bits.{bit_of}
 use Rattle.cpux_alu.specs.declared.effects.Effect.{Effect}
-use Rattle.cpux_alu.specs.Effects.{effect_of}
+use Rattle.cpux_alu.specs.Effects.{with_flags}
 
 -- how many digits a width has
 abbrev pub digits_of : Size → ℕ
@@ -34,4 +34,4 @@ decimal_carry (suc n) x y carry = decimal_carry n (x / 16) (y / 16) (nat_le 10 (
 -- the decimal sum of two numbers and a carry, its decimal carry, and V 0
 abbrev pub decimal_effect : ℕ → ℕ → ℕ → ℕ → Bool → Effect
 decimal_effect span digits x y carry =
-    effect_of span (decimal_sum digits x y carry) (decimal_carry digits x y carry) false
+    with_flags span (decimal_sum digits x y carry) (decimal_carry digits x y carry) false

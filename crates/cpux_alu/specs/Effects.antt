@@ -18,19 +18,19 @@ abbrev pub extended_byte : ℕ → ℕ → ℕ
 extended_byte span x = if is_negative 0x100 (x % 0x100) then span - 0x100 + x % 0x100 else x % 0x100
 
 -- a result with its flags: Z says that it is 0, and N is its highest bit
-abbrev pub effect_of : ℕ → ℕ → Bool → Bool → Effect
-effect_of span value carry overflow = record {
+abbrev pub with_flags : ℕ → ℕ → Bool → Bool → Effect
+with_flags span value carry overflow = record {
   value = value;
   flags = Some (record { carry = carry; zero = (value == 0); negative = is_negative span value; overflow = overflow });
 }
 
 -- the result of a logical operation: C is the opposite of Z
-abbrev pub logic_effect : ℕ → ℕ → Bool → Effect
-logic_effect span value overflow = effect_of span value (not (value == 0)) overflow
+abbrev pub with_logic_flags : ℕ → ℕ → Bool → Effect
+with_logic_flags span value overflow = with_flags span value (not (value == 0)) overflow
 
 -- a result of an operation that leaves the flags
-abbrev pub leaving_flags : ℕ → Effect
-leaving_flags value = record { value = value; flags = None }
+abbrev pub without_flags : ℕ → Effect
+without_flags value = record { value = value; flags = None }
 
 -- the flags at their places in the status register (SLAU367, chapter CPUX): C bit 0, Z bit 1, N bit 2, V bit 8
 abbrev pub flag_bits : Flags → ℕ

@@ -14,25 +14,25 @@ use Rattle.cpux_decode.specs.declared.operations.OpA.TheVariants as address
 use Rattle.cpux_decode.specs.declared.operations.OpS.{OpS}
 use Rattle.cpux_decode.specs.declared.operations.OpS.TheVariants as shift
 use Rattle.cpux_alu.specs.declared.effects.Effect.{Effect}
-use Rattle.cpux_alu.specs.Effects.{is_negative, complement, extended_byte, logic_effect, leaving_flags, status_after}
+use Rattle.cpux_alu.specs.Effects.{is_negative, complement, extended_byte, with_logic_flags, without_flags, status_after}
 use Rattle.cpux_alu.specs.Sums.{sum_effect}
 use Rattle.cpux_alu.specs.Decimals.{digits_of, decimal_effect}
 use Rattle.cpux_alu.specs.Shifts.{with_carry, shift_once, shift_places, shift_effect}
 
 -- the operations of two operands below the span of a width, with the carry of the status register
 unfoldable pub two_effect : Op2 → Size → ℕ → ℕ → Bool → Effect
-two_effect Mov size src dst carry = leaving_flags src
+two_effect Mov size src dst carry = without_flags src
 two_effect Add size src dst carry = sum_effect (span size) dst src false
 two_effect Addc size src dst carry = sum_effect (span size) dst src carry
 two_effect Subc size src dst carry = sum_effect (span size) dst (complement (span size) src) carry
 two_effect Sub size src dst carry = sum_effect (span size) dst (complement (span size) src) true
 two_effect Cmp size src dst carry = sum_effect (span size) dst (complement (span size) src) true
 two_effect Dadd size src dst carry = decimal_effect (span size) (digits_of size) dst src carry
-two_effect Bit size src dst carry = logic_effect (span size) (bit_and dst src) false
-two_effect Bic size src dst carry = leaving_flags (bit_and dst (complement (span size) src))
-two_effect Bis size src dst carry = leaving_flags (bit_or dst src)
-two_effect Xor size src dst carry = logic_effect (span size) (bit_xor dst src) (is_negative (span size) dst && is_negative (span size) src)
-two_effect And size src dst carry = logic_effect (span size) (bit_and dst src) false
+two_effect Bit size src dst carry = with_logic_flags (span size) (bit_and dst src) false
+two_effect Bic size src dst carry = without_flags (bit_and dst (complement (span size) src))
+two_effect Bis size src dst carry = without_flags (bit_or dst src)
+two_effect Xor size src dst carry = with_logic_flags (span size) (bit_xor dst src) (is_negative (span size) dst && is_negative (span size) src)
+two_effect And size src dst carry = with_logic_flags (span size) (bit_and dst src) false
 
 abbrev pub two_at : Op2 → Size → ℕ → ℕ → ℕ → Effect
 two_at op size src dst sr = two_effect op size (src % span size) (dst % span size) (has_bit sr 0)
@@ -57,11 +57,11 @@ swapped_bytes x = x % 0x100 * 0x100 + x / 0x100 % 0x100
 -- the operations of one operand below the span of a width. Those without a result leave it.
 unfoldable pub one_effect : Op1 → ℕ → ℕ → Bool → Effect
 one_effect one.Rrc span x carry = shift_effect span (shift_once shift.Rrc span (with_carry x carry))
-one_effect one.Swpb span x carry = leaving_flags (swapped_bytes x % span)
+one_effect one.Swpb span x carry = without_flags (swapped_bytes x % span)
 one_effect one.Rra span x carry = shift_effect span (shift_once shift.Rra span (with_carry x carry))
-one_effect one.Sxt span x carry = logic_effect span (extended_byte span x) false
-one_effect one.Push span x carry = leaving_flags x
-one_effect one.Call span x carry = leaving_flags x
+one_effect one.Sxt span x carry = with_logic_flags span (extended_byte span x) false
+one_effect one.Push span x carry = without_flags x
+one_effect one.Call span x carry = without_flags x
 
 abbrev pub one_at : Op1 → Size → ℕ → ℕ → Effect
 one_at op size x sr = one_effect op (span size) (x % span size) (has_bit sr 0)

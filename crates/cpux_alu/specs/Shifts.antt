@@ -4,7 +4,7 @@ use Rattle.cpux_decode.specs.declared.operations.OpS.{OpS}
 use Rattle.cpux_decode.specs.declared.operations.OpS.TheVariants.{Rrc, Rra, Rla, Rru}
 use Rattle.cpux_alu.specs.declared.effects.Effect.{Effect}
 use Rattle.cpux_alu.specs.declared.shifts.Shifted.{Shifted}
-use Rattle.cpux_alu.specs.Effects.{is_negative, effect_of}
+use Rattle.cpux_alu.specs.Effects.{is_negative, with_flags}
 
 abbrev pub with_carry : ℕ → Bool → Shifted
 with_carry value carry = record { value = value; carry = carry }
@@ -31,4 +31,4 @@ shift_places op span (suc n) s = shift_once op span (shift_places op span n s)
 
 -- the result of a shift: C is the last bit that came out, and V is 0
 abbrev pub shift_effect : ℕ → Shifted → Effect
-shift_effect span s = effect_of span s.value s.carry false
+shift_effect span s = with_flags span s.value s.carry false

@@ -2,7 +2,7 @@
 use Rattle.std.specs.Prelude.{ℕ, ◌+◌, ◌-◌, ◌/◌, ◌%◌, ℤ, pos, negsuc, ◌+ℤ◌, Bool, nat_le, nat_lt, if◌then◌else◌}
 use Rattle.chip_words.specs.Bits.{bit_of}
 use Rattle.cpux_alu.specs.declared.effects.Effect.{Effect}
-use Rattle.cpux_alu.specs.Effects.{effect_of}
+use Rattle.cpux_alu.specs.Effects.{with_flags}
 
 -- the value of a number in two's complement
 abbrev pub signed : ℕ → ℕ → ℤ
@@ -20,4 +20,4 @@ overflows span x y carry = leaves_range span ((signed span x +ℤ signed span y)
 -- the sum of two numbers and a carry, its carry out and its overflow
 abbrev pub sum_effect : ℕ → ℕ → ℕ → Bool → Effect
 sum_effect span x y carry =
-    effect_of span ((x + y + bit_of carry) % span) (nat_le span (x + y + bit_of carry)) (overflows span x y carry)
+    with_flags span ((x + y + bit_of carry) % span) (nat_le span (x + y + bit_of carry)) (overflows span x y carry)

@@ -3,7 +3,7 @@ ghost use Rattle.chip_words.specs.Bits.{bit_of};
 ghost use Rattle.chip_words.specs.Sizes.{span};
 ghost use Rattle.cpux_alu.specs.Decimals.{decimal_carry, decimal_effect, decimal_sum as decimal_sum_of, digit_of, digits_of, lowest_sum as lowest_sum_of};
 
-use crate::effects::{Effect, flagged};
+use crate::effects::{Effect, with_flags};
 use cpux_decode::Size;
 
 /// How many decimal digits a width has.
@@ -20,17 +20,17 @@ fn digits(size: Size) -> u32
 }
 
 /// The decimal sum of two numbers and a carry.
-pub fn decimal(size: Size, x: u32, y: u32, carry: bool) -> Effect
+pub fn decimal_sum(size: Size, x: u32, y: u32, carry: bool) -> Effect
     ensures effect { result ≡ decimal_effect (span size) (digits_of size) x y carry }
     ensures range { result.value < span size }
 {
-    let (value, carry) = decimal_sum(digits(size), x, y, carry);
-    flagged(size, value, carry, false)
+    let (value, carry) = sum_digits(digits(size), x, y, carry);
+    with_flags(size, value, carry, false)
 }
 
 /// The sum of the lowest digits of two numbers, as many as said, and the carry of the highest.
 #[tactic(auto, using(crate::proofs::Powers::power_of_16))]
-fn decimal_sum(digits: u32, x: u32, y: u32, carry: bool) -> (u32, bool)
+fn sum_digits(digits: u32, x: u32, y: u32, carry: bool) -> (u32, bool)
     requires { digits ≤ 5 }
     ensures value { result.0 ≡ decimal_sum_of digits x y carry }
     ensures carry { result.1 ≡ decimal_carry digits x y carry }
@@ -40,7 +40,7 @@ fn decimal_sum(digits: u32, x: u32, y: u32, carry: bool) -> (u32, bool)
         return (0, carry);
     }
     let (digit, carried) = digit(lowest_sum(x, y, carry));
-    let (higher, last) = decimal_sum(digits - 1, x >> 4, y >> 4, carried);
+    let (higher, last) = sum_digits(digits - 1, x >> 4, y >> 4, carried);
     (16 * higher + digit, last)
 }
 

@@ -1,6 +1,6 @@
 ghost use Rattle.std.specs.Prelude.{◌≡◌, ◌<◌, Option, None};
 ghost use Rattle.chip_words.specs.Sizes.{span};
-ghost use Rattle.cpux_alu.specs.Effects.{effect_of, flag_bits, leaving_flags as leaving_flags_of, logic_effect, status_after};
+ghost use Rattle.cpux_alu.specs.Effects.{flag_bits, status_after, with_flags as with_flags_of, with_logic_flags as with_logic_flags_of, without_flags as without_flags_of};
 
 use crate::widths::is_negative;
 use cpux_decode::Size;
@@ -49,9 +49,9 @@ pub fn status(sr: u16, flags: Option<Flags>) -> u16
 }
 
 /// A result with its carry and its overflow, and the flags that tell of the result itself.
-pub fn flagged(size: Size, value: u32, carry: bool, overflow: bool) -> Effect
+pub fn with_flags(size: Size, value: u32, carry: bool, overflow: bool) -> Effect
     requires { value < span size }
-    ensures { result ≡ effect_of (span size) value carry overflow }
+    ensures { result ≡ with_flags_of (span size) value carry overflow }
 {
     let flags = Flags {
         carry,
@@ -66,16 +66,16 @@ pub fn flagged(size: Size, value: u32, carry: bool, overflow: bool) -> Effect
 }
 
 /// The result of a logical operation: the carry says that it isn't 0.
-pub fn logical(size: Size, value: u32, overflow: bool) -> Effect
+pub fn with_logic_flags(size: Size, value: u32, overflow: bool) -> Effect
     requires { value < span size }
-    ensures { result ≡ logic_effect (span size) value overflow }
+    ensures { result ≡ with_logic_flags_of (span size) value overflow }
 {
-    flagged(size, value, value != 0, overflow)
+    with_flags(size, value, value != 0, overflow)
 }
 
 /// A result of an operation that leaves the flags as they are.
-pub fn leaving_flags(value: u32) -> Effect
-    ensures { result ≡ leaving_flags_of value }
+pub fn without_flags(value: u32) -> Effect
+    ensures { result ≡ without_flags_of value }
 {
     Effect { value, flags: None }
 }

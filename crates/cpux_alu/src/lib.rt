@@ -19,8 +19,8 @@ mod tests;
 mod widths;
 
 use cpux_decode::{Op1, Op2, OpA, OpS, Size};
-use decimals::decimal;
-use effects::{Effect, leaving_flags, logical, status};
+use decimals::decimal_sum;
+use effects::{Effect, status, with_logic_flags, without_flags};
 pub use laws::{complement_subtracts, decimal_sum_is_exact, shifts_scale, signed_sum_is_exact};
 use shifts::{Shifted, shift_once, shift_places, shift_result};
 use sums::sum;
@@ -51,18 +51,18 @@ fn two_operands(op: Op2, size: Size, src: u32, dst: u32, carry: bool) -> Effect
     ensures range { result.value < span size }
 {
     match op {
-        Op2::Mov => leaving_flags(src),
+        Op2::Mov => without_flags(src),
         Op2::Add => sum(size, dst, src, false),
         Op2::Addc => sum(size, dst, src, carry),
         Op2::Subc => sum(size, dst, complement(size, src), carry),
         Op2::Sub | Op2::Cmp => sum(size, dst, complement(size, src), true),
-        Op2::Dadd => decimal(size, dst, src, carry),
-        Op2::Bit | Op2::And => logical(size, dst & src, false),
-        Op2::Bic => leaving_flags(dst & complement(size, src)),
-        Op2::Bis => leaving_flags(dst | src),
+        Op2::Dadd => decimal_sum(size, dst, src, carry),
+        Op2::Bit | Op2::And => with_logic_flags(size, dst & src, false),
+        Op2::Bic => without_flags(dst & complement(size, src)),
+        Op2::Bis => without_flags(dst | src),
         Op2::Xor => {
             let negative = is_negative(size, dst) && is_negative(size, src);
-            logical(size, dst ^ src, negative)
+            with_logic_flags(size, dst ^ src, negative)
         }
     }
 }
@@ -89,9 +89,9 @@ fn one_operand(op: Op1, size: Size, x: u32, carry: bool) -> Effect
     let from = Shifted { value: x, carry };
     match op {
         Op1::Rrc => shift_result(size, shift_once(OpS::Rrc, size, from)),
-        Op1::Swpb => leaving_flags(((x & 0xFF) << 8 | (x >> 8) & 0xFF) & mask(size)),
+        Op1::Swpb => without_flags(((x & 0xFF) << 8 | (x >> 8) & 0xFF) & mask(size)),
         Op1::Rra => shift_result(size, shift_once(OpS::Rra, size, from)),
-        Op1::Sxt => logical(size, extended_byte(size, x), false),
+        Op1::Sxt => with_logic_flags(size, extended_byte(size, x), false),
         Op1::Push | Op1::Call => unreachable!(),
     }
 }

@@ -2,7 +2,7 @@ ghost use Rattle.std.specs.Prelude.{◌≡◌, ◌<◌};
 ghost use Rattle.chip_words.specs.Sizes.{span};
 ghost use Rattle.cpux_alu.specs.Shifts.{right_once as right_once_of, shift_effect, shift_once as shift_once_of, shift_places as shift_places_of};
 
-use crate::effects::{Effect, flagged};
+use crate::effects::{Effect, with_flags};
 use crate::widths::{is_negative, mask, top};
 use cpux_decode::{OpS, Size};
 
@@ -18,7 +18,7 @@ pub fn shift_result(size: Size, shifted: Shifted) -> Effect
     requires { shifted.value < span size }
     ensures { result ≡ shift_effect (span size) shifted }
 {
-    flagged(size, shifted.value, shifted.carry, false)
+    with_flags(size, shifted.value, shifted.carry, false)
 }
 
 /// Several places to the right or to the left.

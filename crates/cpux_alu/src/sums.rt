@@ -2,7 +2,7 @@ ghost use Rattle.std.specs.Prelude.{◌≡◌, ◌<◌};
 ghost use Rattle.chip_words.specs.Sizes.{span};
 ghost use Rattle.cpux_alu.specs.Sums.{sum_effect};
 
-use crate::effects::{Effect, flagged};
+use crate::effects::{Effect, with_flags};
 use crate::widths::{is_negative, mask};
 use cpux_decode::Size;
 
@@ -19,5 +19,5 @@ pub fn sum(size: Size, x: u32, y: u32, carry: bool) -> Effect
     let sign = is_negative(size, x);
     // The exact sum leaves the range where two numbers of one sign give the other sign.
     let overflow = sign == is_negative(size, y) && sign != is_negative(size, value);
-    flagged(size, value, total > mask(size), overflow)
+    with_flags(size, value, total > mask(size), overflow)
 }

@@ -1,4 +1,0 @@
-use Rattle.cpux_alu.proofs.decimals.+decimal_sum.Given as goal
-
-abbrev pub decreases-decimal_sum : goal.decreases-decimal_sum
-decreases-decimal_sum l = l.digits
