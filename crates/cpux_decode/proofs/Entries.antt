@@ -1,5 +1,5 @@
 -- What the table says of a pair of words, beyond its rows.
-use Rattle.std.proofs.Common.{◌≡◌, ◌≢◌, ℕ, ◌+◌, ◌<◌, ◌≤◌, Bool, true, false, cond, List, [], ◌∷◌, ◌++◌, length, refl, ap, sym, ◌∙◌, arith, ◌==◌, ◌&&◌, ◌||◌, nat_le, not}
+use Rattle.std.proofs.Common.{◌≡◌, ◌≢◌, ℕ, ◌+◌, ◌≤◌, Bool, true, false, List, [], ◌∷◌, ◌++◌, refl, ap, sym, ◌∙◌, arith, ◌&&◌, ◌||◌, nat_le, not}
 use Rattle.std.specs.List.{list_all, list_any}
 use Rattle.std.specs.Int.Bits.{bit_and}
 use Rattle.std.proofs.lemmas.Bool.Decides.{nat_tests}
@@ -7,18 +7,27 @@ use Rattle.std.proofs.lemmas.Nat.Bits.{and_high}
 use Rattle.cpux_decode.specs.declared.forms.Form.{Form}
 use Rattle.cpux_decode.specs.declared.forms.Form.TheVariants.{Reserved, MoveAbsolute, MoveIndexed, MoveToAbsolute, MoveToIndexed, MoveImm, AddrImm, Reti, CallIndexed, CallAbsolute, CallSymbolic, CallImm, LongOne, LongTwo}
 use Rattle.cpux_decode.specs.declared.forms.Entry.{Entry}
-use Rattle.cpux_decode.specs.Rows.{Row, meets, rows_met, or_else, first_says, lookup}
+use Rattle.cpux_decode.specs.Rows.{Row, meets, lookup}
 use Rattle.cpux_decode.specs.Table.{reserved_rows, ordinary_rows, table_rows, entry, is_reserved, no_row, address_rows, one_operand_rows, reserved_one_operand_rows, call_rows, reserved_call_rows, many_rows, extended_rows, reserved_extended_rows, reserved_before_rows, reserved_width_rows, reserved_operand_rows, jump_rows, two_operand_rows}
-use Rattle.cpux_decode.specs.Operands.{bits}
+
 use Rattle.cpux_decode.specs.Instructions.{is_extension}
 use Rattle.cpux_decode.proofs.Narrow.{rest, lookup-rest}
-use Rattle.cpux_decode.proofs.OneRow.{each_pair_meets_one_row, lookup-met, lookup-append, lookup-entry_of}
-use Rattle.cpux_decode.proofs.Lookups.{both, lookup-passes, lookup-any, lookup-none, first_says-one, is_long, is_short, lookup-alone, lookup-passes_alone}
+use Rattle.cpux_decode.proofs.OneRow.{each_pair_meets_one_row, lookup-append, lookup-entry_of}
+use Rattle.cpux_decode.proofs.Lookups.{lookup-passes, lookup-any, lookup-none, first_says-one, is_long, is_short, lookup-alone, lookup-passes_alone}
+
+abbrev all_rows : List (Row Entry)
+all_rows = reserved_rows ++ ordinary_rows
+
+-- what is known of an extension word
+abbrev extension : List (ℕ × ℕ)
+extension = (0xF800, 0x1800) ∷ []
 
 -- a pair of words meets a row, so the default does not count
-pub lookup-entry_any : (e : Entry) (w0 w1 : ℕ) → lookup e (reserved_rows ++ ordinary_rows) w0 w1 ≡ entry w0 w1
+pub lookup-entry_any : (e : Entry) (w0 w1 : ℕ) →
+    lookup e all_rows w0 w1 ≡ entry w0 w1
 unfolding entry
-lookup-entry_any e w0 w1 = lookup-entry_of e w0 w1 ∙ first_says-one e no_row (table_rows w0 w1) (each_pair_meets_one_row w0 w1)
+lookup-entry_any e w0 w1 =
+    lookup-entry_of e w0 w1 ∙ first_says-one e no_row (table_rows w0 w1) (each_pair_meets_one_row w0 w1)
 
 -- ---- reserved words
 
@@ -30,11 +39,13 @@ abbrev says_reserved : Entry → Bool
 says_reserved entry = is_reserved_form entry.form
 
 reserved_say : list_all (λ (row : Row Entry). says_reserved row.says) reserved_rows ≡ true
-unfolding reserved_rows reserved_one_operand_rows reserved_call_rows reserved_extended_rows reserved_before_rows reserved_width_rows reserved_operand_rows
+unfolding reserved_rows reserved_one_operand_rows reserved_call_rows reserved_extended_rows
+      reserved_before_rows reserved_width_rows reserved_operand_rows
 reserved_say = refl
 
 ordinary_say : list_all (λ (row : Row Entry). not (says_reserved row.says)) ordinary_rows ≡ true
-unfolding ordinary_rows address_rows one_operand_rows call_rows many_rows extended_rows jump_rows two_operand_rows
+unfolding ordinary_rows address_rows one_operand_rows call_rows many_rows extended_rows jump_rows
+      two_operand_rows
 ordinary_say = refl
 
 -- an entry that is not reserved
@@ -45,14 +56,24 @@ not_true : (b : Bool) → not b ≡ true → b ≡ false
 not_true true h = cc
 not_true false h = refl
 
-says_reserved-by : (w0 w1 : ℕ) (t : Bool) → list_any (λ (row : Row Entry). meets row w0 w1) reserved_rows ≡ t → says_reserved (lookup (lookup other ordinary_rows w0 w1) reserved_rows w0 w1) ≡ t
-says_reserved-by w0 w1 true h = ap says_reserved (lookup-any (lookup other ordinary_rows w0 w1) no_row reserved_rows w0 w1 h) ∙ lookup-passes says_reserved no_row reserved_rows w0 w1 refl reserved_say
-says_reserved-by w0 w1 false h = ap says_reserved (lookup-none (lookup other ordinary_rows w0 w1) reserved_rows w0 w1 h) ∙ not_true (says_reserved (lookup other ordinary_rows w0 w1)) (lookup-passes (λ (e : Entry). not (says_reserved e)) other ordinary_rows w0 w1 refl ordinary_say)
+says_reserved-by : (w0 w1 : ℕ) (t : Bool) →
+    list_any (λ (row : Row Entry). meets row w0 w1) reserved_rows ≡ t →
+    says_reserved (lookup (lookup other ordinary_rows w0 w1) reserved_rows w0 w1) ≡ t
+says_reserved-by w0 w1 true h =
+    ap says_reserved (lookup-any (lookup other ordinary_rows w0 w1) no_row reserved_rows w0 w1 h)
+    ∙ lookup-passes says_reserved no_row reserved_rows w0 w1 refl reserved_say
+says_reserved-by w0 w1 false h =
+    ap says_reserved (lookup-none (lookup other ordinary_rows w0 w1) reserved_rows w0 w1 h)
+    ∙ not_true (says_reserved (lookup other ordinary_rows w0 w1))
+        (lookup-passes (λ (e : Entry). not (says_reserved e)) other ordinary_rows w0 w1 refl ordinary_say)
 
 -- the form is reserved exactly where a reserved row is met
 pub reserved_form-entry : (w0 w1 : ℕ) → is_reserved_form (entry w0 w1).form ≡ is_reserved w0 w1
 unfolding is_reserved
-reserved_form-entry w0 w1 = ap says_reserved (sym (lookup-entry_any other w0 w1) ∙ lookup-append other reserved_rows ordinary_rows w0 w1) ∙ says_reserved-by w0 w1 (is_reserved w0 w1) refl
+reserved_form-entry w0 w1 =
+    ap says_reserved
+      (sym (lookup-entry_any other w0 w1) ∙ lookup-append other reserved_rows ordinary_rows w0 w1)
+    ∙ says_reserved-by w0 w1 (is_reserved w0 w1) refl
 
 -- ---- the words of an entry
 
@@ -75,14 +96,31 @@ field_words form = 1
 abbrev has_words : Entry → Bool
 has_words entry = nat_le (field_words entry.form) entry.words && nat_le entry.words 2
 
-rows_have_words : list_all (λ (row : Row Entry). has_words row.says) (reserved_rows ++ ordinary_rows) ≡ true
-unfolding reserved_rows ordinary_rows reserved_one_operand_rows reserved_call_rows reserved_extended_rows reserved_before_rows reserved_width_rows reserved_operand_rows address_rows one_operand_rows call_rows many_rows extended_rows jump_rows two_operand_rows
-rows_have_words = refl
+abbrev pub is_long_form : Form → Bool
+is_long_form (LongOne op) = true
+is_long_form (LongTwo op) = true
+is_long_form form = false
+
+-- tests that all rows pass
+record RowsPass : Type 0 where
+  have_words : list_all (λ (row : Row Entry). has_words row.says) all_rows ≡ true
+  alone : list_all (λ (row : Row Entry). is_long row || is_short row) all_rows ≡ true
+  short : list_all (λ (row : Row Entry). is_long row || not (is_long_form row.says.form)) all_rows ≡ true
+  extended : list_all (λ (row : Row Entry). nat_le 2 row.says.words) (rest extension [] all_rows) ≡ true
+
+tested : RowsPass
+unfolding reserved_rows ordinary_rows reserved_one_operand_rows reserved_call_rows reserved_extended_rows
+      reserved_before_rows reserved_width_rows reserved_operand_rows address_rows one_operand_rows call_rows
+      many_rows extended_rows jump_rows two_operand_rows
+tested = record { have_words = refl; alone = refl; short = refl; extended = refl }
 
 entry_has_words : (w0 w1 : ℕ) → has_words (entry w0 w1) ≡ true
-entry_has_words w0 w1 = ap has_words (sym (lookup-entry_any no_row w0 w1)) ∙ lookup-passes has_words no_row (reserved_rows ++ ordinary_rows) w0 w1 refl rows_have_words
+entry_has_words w0 w1 =
+    ap has_words (sym (lookup-entry_any no_row w0 w1))
+    ∙ lookup-passes has_words no_row all_rows w0 w1 refl tested.have_words
 
-pub entry_words : (w0 w1 : ℕ) → (field_words (entry w0 w1).form ≤ (entry w0 w1).words) × ((entry w0 w1).words ≤ 2)
+pub entry_words : (w0 w1 : ℕ) →
+    (field_words (entry w0 w1).form ≤ (entry w0 w1).words) × ((entry w0 w1).words ≤ 2)
 entry_words w0 w1 = let h = entry_has_words w0 w1 in (grind (arith, nat_tests), grind (arith, nat_tests))
 
 pub entry_words-most : (w0 w1 : ℕ) → (entry w0 w1).words ≤ 2
@@ -96,35 +134,32 @@ no_extension w h e = grind (arith, nat_tests, and_high w 5 11)
 an_extension : (w : ℕ) → is_extension w ≡ true → bit_and w 0xF800 ≡ 0x1800
 an_extension w h = grind (arith, nat_tests, and_high w 5 11)
 
-rows_alone : list_all (λ (row : Row Entry). is_long row || is_short row) (reserved_rows ++ ordinary_rows) ≡ true
-unfolding reserved_rows ordinary_rows reserved_one_operand_rows reserved_call_rows reserved_extended_rows reserved_before_rows reserved_width_rows reserved_operand_rows address_rows one_operand_rows call_rows many_rows extended_rows jump_rows two_operand_rows
-rows_alone = refl
-
 -- a word that is no extension word means the same whatever stands behind it
 pub entry-alone : (w0 w1 w2 : ℕ) → is_extension w0 ≡ false → entry w0 w1 ≡ entry w0 w2
-entry-alone w0 w1 w2 h = sym (lookup-entry_any no_row w0 w1) ∙ lookup-alone no_row (reserved_rows ++ ordinary_rows) w0 w1 w2 (no_extension w0 h) rows_alone ∙ lookup-entry_any no_row w0 w2
-
-abbrev pub is_long_form : Form → Bool
-is_long_form (LongOne op) = true
-is_long_form (LongTwo op) = true
-is_long_form form = false
-
-rows_short : list_all (λ (row : Row Entry). is_long row || not (is_long_form row.says.form)) (reserved_rows ++ ordinary_rows) ≡ true
-unfolding reserved_rows ordinary_rows reserved_one_operand_rows reserved_call_rows reserved_extended_rows reserved_before_rows reserved_width_rows reserved_operand_rows address_rows one_operand_rows call_rows many_rows extended_rows jump_rows two_operand_rows
-rows_short = refl
+entry-alone w0 w1 w2 h =
+    sym (lookup-entry_any no_row w0 w1)
+    ∙ lookup-alone no_row all_rows w0 w1 w2 (no_extension w0 h) tested.alone
+    ∙ lookup-entry_any no_row w0 w2
 
 pub long_form-alone : (w0 w1 : ℕ) → is_extension w0 ≡ false → is_long_form (entry w0 w1).form ≡ false
-long_form-alone w0 w1 h = not_true (is_long_form (entry w0 w1).form) (ap (λ (e : Entry). not (is_long_form e.form)) (sym (lookup-entry_any no_row w0 w1)) ∙ lookup-passes_alone (λ (e : Entry). not (is_long_form e.form)) no_row (reserved_rows ++ ordinary_rows) w0 w1 (no_extension w0 h) refl rows_short)
+long_form-alone w0 w1 h =
+    not_true (is_long_form (entry w0 w1).form)
+      (ap (λ (e : Entry). not (is_long_form e.form)) (sym (lookup-entry_any no_row w0 w1))
+        ∙ lookup-passes_alone (λ (e : Entry). not (is_long_form e.form)) no_row
+            all_rows w0 w1 (no_extension w0 h) refl tested.short)
 
--- what is left behind an extension word has two words
-extension_left : list_all (λ (row : Row Entry). nat_le 2 row.says.words) (rest ((0xF800, 0x1800) ∷ []) [] (reserved_rows ++ ordinary_rows)) ≡ true
-unfolding reserved_rows ordinary_rows reserved_one_operand_rows reserved_call_rows reserved_extended_rows reserved_before_rows reserved_width_rows reserved_operand_rows address_rows one_operand_rows call_rows many_rows extended_rows jump_rows two_operand_rows
-extension_left = refl
+-- an entry of two words
+abbrev two_reserved : Entry
+two_reserved = record { form = Reserved; words = 2 }
 
 two_words_tested : (w0 w1 : ℕ) → is_extension w0 ≡ true → nat_le 2 (entry w0 w1).words ≡ true
 two_words_tested w0 w1 h =
-    ap (λ (e : Entry). nat_le 2 e.words) (sym (lookup-entry_any (record { form = Reserved; words = 2 }) w0 w1) ∙ lookup-rest (record { form = Reserved; words = 2 }) ((0xF800, 0x1800) ∷ []) [] (reserved_rows ++ ordinary_rows) w0 w1 (an_extension w0 h, tt) tt)
-    ∙ lookup-passes (λ (e : Entry). nat_le 2 e.words) (record { form = Reserved; words = 2 }) (rest ((0xF800, 0x1800) ∷ []) [] (reserved_rows ++ ordinary_rows)) w0 w1 refl extension_left
+    ap (λ (e : Entry). nat_le 2 e.words)
+        (sym (lookup-entry_any two_reserved w0 w1)
+          ∙ lookup-rest two_reserved extension []
+              all_rows w0 w1 (an_extension w0 h, tt) tt)
+    ∙ lookup-passes (λ (e : Entry). nat_le 2 e.words) two_reserved
+        (rest extension [] all_rows) w0 w1 refl tested.extended
 
 pub extension_words : (w0 w1 : ℕ) → is_extension w0 ≡ true → 2 ≤ (entry w0 w1).words
 extension_words w0 w1 h = let t = two_words_tested w0 w1 h in grind (arith, nat_tests)

@@ -1,5 +1,5 @@
 -- An instruction looks at its own words alone.
-use Rattle.std.proofs.Common.{◌≡◌, ◌≢◌, ℕ, zero, suc, ◌+◌, ◌-◌, ◌%◌, ◌/◌, ◌^◌, ◌<◌, ◌≤◌, Bool, true, false, List, refl, ap, sym, ◌∙◌, arith, lit≤, lit<, slice_index, ◌==◌}
+use Rattle.std.proofs.Common.{◌≡◌, ℕ, zero, suc, ◌+◌, ◌-◌, ◌<◌, ◌≤◌, Bool, true, false, List, refl, ap, sym, ◌∙◌, arith, lit≤, lit<, slice_index}
 use Rattle.std.proofs.lemmas.Bool.Decides.{nat_tests}
 use Rattle.cpux_decode.specs.declared.forms.Form.{Form}
 use Rattle.cpux_decode.specs.declared.forms.Form.TheVariants.{Reserved, MoveAt, MoveAtPlus, MoveAbsolute, MoveIndexed, MoveToAbsolute, MoveToIndexed, MoveImm, MoveReg, AddrImm, AddrReg, ShiftMany, One, Reti, CallReg, CallIndexed, CallAt, CallAtPlus, CallAbsolute, CallSymbolic, CallImm, PushMany, PopMany, LongOne, LongTwo, Jump, Two}
@@ -13,63 +13,100 @@ use Rattle.cpux_decode.proofs.Entries.{field_words, entry_words, entry_words-mos
 
 -- ---- operands
 
-source_alone : (long : Bool) (high mode r x y : ℕ) → mode < 4 → source_words mode r ≡ 0 → source_place long high mode r x ≡ source_place long high mode r y
+source_alone : (long : Bool) (high mode r x y : ℕ) → mode < 4 → source_words mode r ≡ 0 →
+    source_place long high mode r x ≡ source_place long high mode r y
 unfolding source_words source_place
 source_alone long high mode r x y b h = grind (arith, nat_tests)
 
-source_same : (long : Bool) (high mode r x y n : ℕ) → mode < 4 → source_words mode r ≡ n → (0 < n → x ≡ y) → source_place long high mode r x ≡ source_place long high mode r y
+source_same : (long : Bool) (high mode r x y n : ℕ) → mode < 4 → source_words mode r ≡ n → (0 < n → x ≡ y) →
+    source_place long high mode r x ≡ source_place long high mode r y
 source_same long high mode r x y zero b h k = source_alone long high mode r x y b h
 source_same long high mode r x y (suc n) b h k = ap (source_place long high mode r) (k (omega arith))
 
-destination_same : (long : Bool) (high mode r x y n : ℕ) → mode ≡ n → (0 < n → x ≡ y) → destination_place long high mode r x ≡ destination_place long high mode r y
+destination_same : (long : Bool) (high mode r x y n : ℕ) → mode ≡ n → (0 < n → x ≡ y) →
+    destination_place long high mode r x ≡ destination_place long high mode r y
 unfolding destination_place
 destination_same long high mode r x y zero h k = rw h refl
-destination_same long high mode r x y (suc n) h k = ap (destination_place long high mode r) (k (omega arith))
+destination_same long high mode r x y (suc n) h k =
+    ap (destination_place long high mode r) (k (omega arith))
 
 -- ---- instructions
 
-one_same : (op : Op1) (a b : List ℕ) → SameFront (1 + source_words (bits (slice_index a 0) 5 4) (bits (slice_index a 0) 3 0)) a b → one_operand op a ≡ one_operand op b
+one_same : (op : Op1) (a b : List ℕ) →
+    SameFront (1 + source_words (bits (slice_index a 0) 5 4) (bits (slice_index a 0) 3 0)) a b →
+    one_operand op a ≡ one_operand op b
 unfolding one_operand
 one_same op a b s =
     let e = s 0 (omega arith) in
-    let p = source_same false 0 (bits (slice_index a 0) 5 4) (bits (slice_index a 0) 3 0) (slice_index a 1) (slice_index b 1) (source_words (bits (slice_index a 0) 5 4) (bits (slice_index a 0) 3 0)) (omega arith) refl (λ k. s 1 (omega arith)) in
+    let p =
+        source_same false 0 (bits (slice_index a 0) 5 4) (bits (slice_index a 0) 3 0) (slice_index a 1)
+          (slice_index b 1) (source_words (bits (slice_index a 0) 5 4) (bits (slice_index a 0) 3 0))
+          (omega arith) refl (λ k. s 1 (omega arith)) in
     cc
 
-two_same : (op : Op2) (a b : List ℕ) → SameFront (1 + (source_words (bits (slice_index a 0) 5 4) (bits (slice_index a 0) 11 8) + bits (slice_index a 0) 7 7)) a b → two_operands op a ≡ two_operands op b
+two_same : (op : Op2) (a b : List ℕ) →
+    SameFront
+        (1 +
+            (source_words (bits (slice_index a 0) 5 4) (bits (slice_index a 0) 11 8) + bits
+                (slice_index a 0) 7 7)) a b →
+    two_operands op a ≡ two_operands op b
 unfolding two_operands
 two_same op a b s =
     let m = bits (slice_index a 0) 5 4 in
     let r = bits (slice_index a 0) 11 8 in
     let e = s 0 (omega arith) in
-    let p = source_same false 0 m r (slice_index a 1) (slice_index b 1) (source_words m r) (omega arith) refl (λ k. s 1 (omega arith)) in
-    let d = destination_same false 0 (bits (slice_index a 0) 7 7) (bits (slice_index a 0) 3 0) (slice_index a (1 + source_words m r)) (slice_index b (1 + source_words m r)) (bits (slice_index a 0) 7 7) refl (λ k. s (1 + source_words m r) (omega arith)) in
+    let p =
+        source_same false 0 m r (slice_index a 1) (slice_index b 1) (source_words m r) (omega arith) refl
+          (λ k. s 1 (omega arith)) in
+    let d =
+        destination_same false 0 (bits (slice_index a 0) 7 7) (bits (slice_index a 0) 3 0)
+          (slice_index a (1 + source_words m r)) (slice_index b (1 + source_words m r))
+          (bits (slice_index a 0) 7 7) refl (λ k. s (1 + source_words m r) (omega arith)) in
     cc
 
-long_one_same : (op : Op1) (a b : List ℕ) → SameFront (2 + source_words (bits (slice_index a 1) 5 4) (bits (slice_index a 1) 3 0)) a b → long_one_operand op a ≡ long_one_operand op b
+long_one_same : (op : Op1) (a b : List ℕ) →
+    SameFront (2 + source_words (bits (slice_index a 1) 5 4) (bits (slice_index a 1) 3 0)) a b →
+    long_one_operand op a ≡ long_one_operand op b
 unfolding long_one_operand
 long_one_same op a b s =
     let m = bits (slice_index a 1) 5 4 in
     let r = bits (slice_index a 1) 3 0 in
     let e = s 0 (omega arith) in
     let f = s 1 (omega arith) in
-    let p = source_same true (bits (slice_index a 0) 3 0) m r (slice_index a 2) (slice_index b 2) (source_words m r) (omega arith) refl (λ k. s 2 (omega arith)) in
+    let p =
+        source_same true (bits (slice_index a 0) 3 0) m r (slice_index a 2) (slice_index b 2)
+          (source_words m r) (omega arith) refl (λ k. s 2 (omega arith)) in
     cc
 
-long_two_same : (op : Op2) (a b : List ℕ) → SameFront (2 + (source_words (bits (slice_index a 1) 5 4) (bits (slice_index a 1) 11 8) + bits (slice_index a 1) 7 7)) a b → long_two_operands op a ≡ long_two_operands op b
+long_two_same : (op : Op2) (a b : List ℕ) →
+    SameFront
+        (2 +
+            (source_words (bits (slice_index a 1) 5 4) (bits (slice_index a 1) 11 8) + bits
+                (slice_index a 1) 7 7)) a b →
+    long_two_operands op a ≡ long_two_operands op b
 unfolding long_two_operands
 long_two_same op a b s =
     let m = bits (slice_index a 1) 5 4 in
     let r = bits (slice_index a 1) 11 8 in
     let e = s 0 (omega arith) in
     let f = s 1 (omega arith) in
-    let p = source_same true (bits (slice_index a 0) 10 7) m r (slice_index a 2) (slice_index b 2) (source_words m r) (omega arith) refl (λ k. s 2 (omega arith)) in
-    let d = destination_same true (bits (slice_index a 0) 3 0) (bits (slice_index a 1) 7 7) (bits (slice_index a 1) 3 0) (slice_index a (2 + source_words m r)) (slice_index b (2 + source_words m r)) (bits (slice_index a 1) 7 7) refl (λ k. s (2 + source_words m r) (omega arith)) in
+    let p =
+        source_same true (bits (slice_index a 0) 10 7) m r (slice_index a 2) (slice_index b 2)
+          (source_words m r) (omega arith) refl (λ k. s 2 (omega arith)) in
+    let d =
+        destination_same true (bits (slice_index a 0) 3 0) (bits (slice_index a 1) 7 7)
+          (bits (slice_index a 1) 3 0) (slice_index a (2 + source_words m r))
+          (slice_index b (2 + source_words m r)) (bits (slice_index a 1) 7 7) refl
+          (λ k. s (2 + source_words m r) (omega arith)) in
     cc
 
-same_by_first : {A : Type 0} (f : ℕ → A) (n : ℕ) (a b : List ℕ) → 0 < n → SameFront n a b → f (slice_index a 0) ≡ f (slice_index b 0)
+same_by_first : {A : Type 0} (f : ℕ → A) (n : ℕ) (a b : List ℕ) → 0 < n → SameFront n a b →
+    f (slice_index a 0) ≡ f (slice_index b 0)
 same_by_first f n a b h s = ap f (s 0 h)
 
-instruction_same : (form : Form) (a b : List ℕ) → SameFront (field_words form + operand_words form (slice_index a 0) (slice_index a 1)) a b → instruction_of form a ≡ instruction_of form b
+instruction_same : (form : Form) (a b : List ℕ) →
+    SameFront (field_words form + operand_words form (slice_index a 0) (slice_index a 1)) a b →
+    instruction_of form a ≡ instruction_of form b
 unfolding instruction_of operand_words
 instruction_same (One op) a b s = one_same op a b s
 instruction_same (Two op) a b s = two_same op a b s
@@ -125,15 +162,23 @@ unfolding length_of
 length_of-extension w0 w1 h = omega (arith, extension_words w0 w1 h)
 
 -- the second word counts in an entry only where it belongs to the instruction
-entry_same : (a b : List ℕ) (t : Bool) → is_extension (slice_index a 0) ≡ t → SameFront (length_of (slice_index a 0) (slice_index a 1)) a b → entry (slice_index a 0) (slice_index a 1) ≡ entry (slice_index a 0) (slice_index b 1)
-entry_same a b true h s = ap (entry (slice_index a 0)) (s 1 (omega (arith, length_of-extension (slice_index a 0) (slice_index a 1) h)))
+entry_same : (a b : List ℕ) (t : Bool) → is_extension (slice_index a 0) ≡ t →
+    SameFront (length_of (slice_index a 0) (slice_index a 1)) a b →
+    entry (slice_index a 0) (slice_index a 1) ≡ entry (slice_index a 0) (slice_index b 1)
+entry_same a b true h s =
+    ap (entry (slice_index a 0))
+      (s 1 (omega (arith, length_of-extension (slice_index a 0) (slice_index a 1) h)))
 entry_same a b false h s = entry-alone (slice_index a 0) (slice_index a 1) (slice_index b 1) h
 
-own_words : (a b : List ℕ) → SameFront (length_of (slice_index a 0) (slice_index a 1)) a b → SameFront (field_words (entry (slice_index a 0) (slice_index a 1)).form + operand_words (entry (slice_index a 0) (slice_index a 1)).form (slice_index a 0) (slice_index a 1)) a b
+own_words : (a b : List ℕ) → SameFront (length_of (slice_index a 0) (slice_index a 1)) a b →
+    SameFront
+        (field_words (entry (slice_index a 0) (slice_index a 1)).form + operand_words
+            (entry (slice_index a 0) (slice_index a 1)).form (slice_index a 0) (slice_index a 1)) a b
 unfolding length_of
 own_words a b s k h = s k (omega (arith, (entry_words (slice_index a 0) (slice_index a 1)).0))
 
-pub decoded-front : (a b : List ℕ) → SameFront (length_of (slice_index a 0) (slice_index a 1)) a b → decoded b ≡ decoded a
+pub decoded-front : (a b : List ℕ) → SameFront (length_of (slice_index a 0) (slice_index a 1)) a b →
+    decoded b ≡ decoded a
 unfolding decoded
 decoded-front a b s =
     let e = s 0 (omega (arith, length_of-positive (slice_index a 0) (slice_index a 1))) in
@@ -142,7 +187,8 @@ decoded-front a b s =
     ∙ ap (λ (x : Entry). instruction_of x.form b) (sym f)
     ∙ sym (instruction_same (entry (slice_index a 0) (slice_index a 1)).form a b (own_words a b s))
 
-operand_words-alone : (form : Form) (w0 w1 w2 : ℕ) → is_long_form form ≡ false → operand_words form w0 w1 ≡ operand_words form w0 w2
+operand_words-alone : (form : Form) (w0 w1 w2 : ℕ) → is_long_form form ≡ false →
+    operand_words form w0 w1 ≡ operand_words form w0 w2
 unfolding operand_words
 operand_words-alone (LongOne op) w0 w1 w2 h = cc
 operand_words-alone (LongTwo op) w0 w1 w2 h = cc
@@ -152,7 +198,8 @@ pub length_of-alone : (w0 w1 w2 : ℕ) → is_extension w0 ≡ false → length_
 unfolding length_of
 length_of-alone w0 w1 w2 h =
     ap (λ (e : Entry). e.words + operand_words e.form w0 w2) (entry-alone w0 w2 w1 h)
-    ∙ ap (λ n. (entry w0 w1).words + n) (operand_words-alone (entry w0 w1).form w0 w2 w1 (long_form-alone w0 w1 h))
+    ∙ ap (λ n. (entry w0 w1).words + n)
+        (operand_words-alone (entry w0 w1).form w0 w2 w1 (long_form-alone w0 w1 h))
 
 -- ---- as contracts take them
 

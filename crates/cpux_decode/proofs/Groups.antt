@@ -1,7 +1,6 @@
 -- The rows that are left of the table where a branch of the code knows the upper bits of a word.
 use Rattle.std.proofs.Common.{◌≡◌, ℕ, true, ◌-◌, ◌*◌, ◌/◌, ◌^◌, ◌<◌, ◌≤◌, List, [], ◌∷◌, ◌++◌, refl, sym, ◌∙◌, ap, arith, lit≤, inl, inr, ◌⊎◌}
 use Rattle.std.specs.Int.Bits.{bit_and}
-use Rattle.std.specs.Int.{bit_at}
 use Rattle.std.proofs.lemmas.Nat.Bits.{and_high_mask, and_pow, bit_at-lt}
 use Rattle.cpux_decode.specs.declared.forms.Form.{Form}
 use Rattle.cpux_decode.specs.declared.forms.Form.TheVariants.{Reserved, One, LongOne, LongTwo, PushMany, PopMany, Jump, Two}
@@ -14,326 +13,460 @@ use Rattle.cpux_decode.specs.Branches.{operand_rows, long_width_rows, long_rotat
 use Rattle.cpux_decode.proofs.Narrow.{Knows, rest, agree, sure, trivial}
 use Rattle.cpux_decode.proofs.OneRow.{lookup-entry}
 
--- the upper bits of a word
-upper : (k w v : ℕ) → k ≤ 16 → w < 0x10000 → w / 2 ^ k ≡ v → bit_and w (0x10000 - 2 ^ k) ≡ v * 2 ^ k
-upper k w v a h e = and_high_mask 16 k a w h ∙ ap (λ n. n * 2 ^ k) e
-
--- what the table says where the upper bits of the first word leave these rows
-entry-lookup : (k v : ℕ) (rows : List (Row Entry)) (w0 w1 : ℕ) → k ≤ 16 → rest ((0x10000 - 2 ^ k, v * 2 ^ k) ∷ []) [] (reserved_rows ++ ordinary_rows) ≡ rest ((0x10000 - 2 ^ k, v * 2 ^ k) ∷ []) [] rows → w0 < 0x10000 → w0 / 2 ^ k ≡ v → entry w0 w1 ≡ lookup no_row rows w0 w1
-entry-lookup k v rows w0 w1 a s h e = sym (lookup-entry w0 w1) ∙ agree no_row ((0x10000 - 2 ^ k, v * 2 ^ k) ∷ []) [] (reserved_rows ++ ordinary_rows) rows w0 w1 s (upper k w0 v a h e, tt) tt
-
--- and where they leave one
-entry-says : (k v : ℕ) (row : Row Entry) (w0 w1 : ℕ) → k ≤ 16 → rest ((0x10000 - 2 ^ k, v * 2 ^ k) ∷ []) [] (reserved_rows ++ ordinary_rows) ≡ row ∷ [] → trivial row ≡ true → w0 < 0x10000 → w0 / 2 ^ k ≡ v → entry w0 w1 ≡ row.says
-entry-says k v row w0 w1 a s t h e = sym (lookup-entry w0 w1) ∙ sure no_row ((0x10000 - 2 ^ k, v * 2 ^ k) ∷ []) [] (reserved_rows ++ ordinary_rows) row w0 w1 s t (upper k w0 v a h e, tt) tt
-
--- ---- the first word by its upper four bits
-
-pub at_0 : (w0 w1 : ℕ) → w0 < 0x10000 → w0 / 0x1000 ≡ 0x0 → entry w0 w1 ≡ lookup no_row address_rows w0 w1
-unfolding reserved_rows ordinary_rows reserved_one_operand_rows reserved_call_rows reserved_extended_rows reserved_before_rows reserved_width_rows reserved_operand_rows address_rows one_operand_rows call_rows many_rows extended_rows jump_rows two_operand_rows
-at_0 w0 w1 h e = entry-lookup 12 0x0 address_rows w0 w1 (lit≤ tt) refl h e
-
-pub at_2 : (w0 w1 : ℕ) → w0 < 0x10000 → w0 / 0x1000 ≡ 0x2 → entry w0 w1 ≡ record { form = Jump; words = 1 }
-unfolding reserved_rows ordinary_rows reserved_one_operand_rows reserved_call_rows reserved_extended_rows reserved_before_rows reserved_width_rows reserved_operand_rows address_rows one_operand_rows call_rows many_rows extended_rows jump_rows two_operand_rows
-at_2 w0 w1 h e = entry-says 12 0x2 (row 0 0 Jump 1) w0 w1 (lit≤ tt) refl refl h e
-
-pub at_3 : (w0 w1 : ℕ) → w0 < 0x10000 → w0 / 0x1000 ≡ 0x3 → entry w0 w1 ≡ record { form = Jump; words = 1 }
-unfolding reserved_rows ordinary_rows reserved_one_operand_rows reserved_call_rows reserved_extended_rows reserved_before_rows reserved_width_rows reserved_operand_rows address_rows one_operand_rows call_rows many_rows extended_rows jump_rows two_operand_rows
-at_3 w0 w1 h e = entry-says 12 0x3 (row 0 0 Jump 1) w0 w1 (lit≤ tt) refl refl h e
-
-pub at_4 : (w0 w1 : ℕ) → w0 < 0x10000 → w0 / 0x1000 ≡ 0x4 → entry w0 w1 ≡ record { form = (Two Mov); words = 1 }
-unfolding reserved_rows ordinary_rows reserved_one_operand_rows reserved_call_rows reserved_extended_rows reserved_before_rows reserved_width_rows reserved_operand_rows address_rows one_operand_rows call_rows many_rows extended_rows jump_rows two_operand_rows
-at_4 w0 w1 h e = entry-says 12 0x4 (row 0 0 (Two Mov) 1) w0 w1 (lit≤ tt) refl refl h e
-
-pub at_5 : (w0 w1 : ℕ) → w0 < 0x10000 → w0 / 0x1000 ≡ 0x5 → entry w0 w1 ≡ record { form = (Two Add); words = 1 }
-unfolding reserved_rows ordinary_rows reserved_one_operand_rows reserved_call_rows reserved_extended_rows reserved_before_rows reserved_width_rows reserved_operand_rows address_rows one_operand_rows call_rows many_rows extended_rows jump_rows two_operand_rows
-at_5 w0 w1 h e = entry-says 12 0x5 (row 0 0 (Two Add) 1) w0 w1 (lit≤ tt) refl refl h e
-
-pub at_6 : (w0 w1 : ℕ) → w0 < 0x10000 → w0 / 0x1000 ≡ 0x6 → entry w0 w1 ≡ record { form = (Two Addc); words = 1 }
-unfolding reserved_rows ordinary_rows reserved_one_operand_rows reserved_call_rows reserved_extended_rows reserved_before_rows reserved_width_rows reserved_operand_rows address_rows one_operand_rows call_rows many_rows extended_rows jump_rows two_operand_rows
-at_6 w0 w1 h e = entry-says 12 0x6 (row 0 0 (Two Addc) 1) w0 w1 (lit≤ tt) refl refl h e
-
-pub at_7 : (w0 w1 : ℕ) → w0 < 0x10000 → w0 / 0x1000 ≡ 0x7 → entry w0 w1 ≡ record { form = (Two Subc); words = 1 }
-unfolding reserved_rows ordinary_rows reserved_one_operand_rows reserved_call_rows reserved_extended_rows reserved_before_rows reserved_width_rows reserved_operand_rows address_rows one_operand_rows call_rows many_rows extended_rows jump_rows two_operand_rows
-at_7 w0 w1 h e = entry-says 12 0x7 (row 0 0 (Two Subc) 1) w0 w1 (lit≤ tt) refl refl h e
-
-pub at_8 : (w0 w1 : ℕ) → w0 < 0x10000 → w0 / 0x1000 ≡ 0x8 → entry w0 w1 ≡ record { form = (Two Sub); words = 1 }
-unfolding reserved_rows ordinary_rows reserved_one_operand_rows reserved_call_rows reserved_extended_rows reserved_before_rows reserved_width_rows reserved_operand_rows address_rows one_operand_rows call_rows many_rows extended_rows jump_rows two_operand_rows
-at_8 w0 w1 h e = entry-says 12 0x8 (row 0 0 (Two Sub) 1) w0 w1 (lit≤ tt) refl refl h e
-
-pub at_9 : (w0 w1 : ℕ) → w0 < 0x10000 → w0 / 0x1000 ≡ 0x9 → entry w0 w1 ≡ record { form = (Two Cmp); words = 1 }
-unfolding reserved_rows ordinary_rows reserved_one_operand_rows reserved_call_rows reserved_extended_rows reserved_before_rows reserved_width_rows reserved_operand_rows address_rows one_operand_rows call_rows many_rows extended_rows jump_rows two_operand_rows
-at_9 w0 w1 h e = entry-says 12 0x9 (row 0 0 (Two Cmp) 1) w0 w1 (lit≤ tt) refl refl h e
-
-pub at_A : (w0 w1 : ℕ) → w0 < 0x10000 → w0 / 0x1000 ≡ 0xA → entry w0 w1 ≡ record { form = (Two Dadd); words = 1 }
-unfolding reserved_rows ordinary_rows reserved_one_operand_rows reserved_call_rows reserved_extended_rows reserved_before_rows reserved_width_rows reserved_operand_rows address_rows one_operand_rows call_rows many_rows extended_rows jump_rows two_operand_rows
-at_A w0 w1 h e = entry-says 12 0xA (row 0 0 (Two Dadd) 1) w0 w1 (lit≤ tt) refl refl h e
-
-pub at_B : (w0 w1 : ℕ) → w0 < 0x10000 → w0 / 0x1000 ≡ 0xB → entry w0 w1 ≡ record { form = (Two Bit); words = 1 }
-unfolding reserved_rows ordinary_rows reserved_one_operand_rows reserved_call_rows reserved_extended_rows reserved_before_rows reserved_width_rows reserved_operand_rows address_rows one_operand_rows call_rows many_rows extended_rows jump_rows two_operand_rows
-at_B w0 w1 h e = entry-says 12 0xB (row 0 0 (Two Bit) 1) w0 w1 (lit≤ tt) refl refl h e
-
-pub at_C : (w0 w1 : ℕ) → w0 < 0x10000 → w0 / 0x1000 ≡ 0xC → entry w0 w1 ≡ record { form = (Two Bic); words = 1 }
-unfolding reserved_rows ordinary_rows reserved_one_operand_rows reserved_call_rows reserved_extended_rows reserved_before_rows reserved_width_rows reserved_operand_rows address_rows one_operand_rows call_rows many_rows extended_rows jump_rows two_operand_rows
-at_C w0 w1 h e = entry-says 12 0xC (row 0 0 (Two Bic) 1) w0 w1 (lit≤ tt) refl refl h e
-
-pub at_D : (w0 w1 : ℕ) → w0 < 0x10000 → w0 / 0x1000 ≡ 0xD → entry w0 w1 ≡ record { form = (Two Bis); words = 1 }
-unfolding reserved_rows ordinary_rows reserved_one_operand_rows reserved_call_rows reserved_extended_rows reserved_before_rows reserved_width_rows reserved_operand_rows address_rows one_operand_rows call_rows many_rows extended_rows jump_rows two_operand_rows
-at_D w0 w1 h e = entry-says 12 0xD (row 0 0 (Two Bis) 1) w0 w1 (lit≤ tt) refl refl h e
-
-pub at_E : (w0 w1 : ℕ) → w0 < 0x10000 → w0 / 0x1000 ≡ 0xE → entry w0 w1 ≡ record { form = (Two Xor); words = 1 }
-unfolding reserved_rows ordinary_rows reserved_one_operand_rows reserved_call_rows reserved_extended_rows reserved_before_rows reserved_width_rows reserved_operand_rows address_rows one_operand_rows call_rows many_rows extended_rows jump_rows two_operand_rows
-at_E w0 w1 h e = entry-says 12 0xE (row 0 0 (Two Xor) 1) w0 w1 (lit≤ tt) refl refl h e
-
-pub at_F : (w0 w1 : ℕ) → w0 < 0x10000 → w0 / 0x1000 ≡ 0xF → entry w0 w1 ≡ record { form = (Two And); words = 1 }
-unfolding reserved_rows ordinary_rows reserved_one_operand_rows reserved_call_rows reserved_extended_rows reserved_before_rows reserved_width_rows reserved_operand_rows address_rows one_operand_rows call_rows many_rows extended_rows jump_rows two_operand_rows
-at_F w0 w1 h e = entry-says 12 0xF (row 0 0 (Two And) 1) w0 w1 (lit≤ tt) refl refl h e
-
-pub ruleset first_nibbles = (at_0, at_2, at_3, at_4, at_5, at_6, at_7, at_8, at_9, at_A, at_B, at_C, at_D, at_E, at_F)
-
--- ---- from 1000h on by the upper eight bits
-
-pub at_10 : (w0 w1 : ℕ) → w0 < 0x10000 → w0 / 0x100 ≡ 0x10 → entry w0 w1 ≡ lookup no_row (reserved_one_operand_rows ++ one_operand_rows) w0 w1
-unfolding reserved_rows ordinary_rows reserved_one_operand_rows reserved_call_rows reserved_extended_rows reserved_before_rows reserved_width_rows reserved_operand_rows address_rows one_operand_rows call_rows many_rows extended_rows jump_rows two_operand_rows
-at_10 w0 w1 h e = entry-lookup 8 0x10 (reserved_one_operand_rows ++ one_operand_rows) w0 w1 (lit≤ tt) refl h e
-
-pub at_11 : (w0 w1 : ℕ) → w0 < 0x10000 → w0 / 0x100 ≡ 0x11 → entry w0 w1 ≡ lookup no_row (reserved_one_operand_rows ++ one_operand_rows) w0 w1
-unfolding reserved_rows ordinary_rows reserved_one_operand_rows reserved_call_rows reserved_extended_rows reserved_before_rows reserved_width_rows reserved_operand_rows address_rows one_operand_rows call_rows many_rows extended_rows jump_rows two_operand_rows
-at_11 w0 w1 h e = entry-lookup 8 0x11 (reserved_one_operand_rows ++ one_operand_rows) w0 w1 (lit≤ tt) refl h e
-
-pub at_12 : (w0 w1 : ℕ) → w0 < 0x10000 → w0 / 0x100 ≡ 0x12 → entry w0 w1 ≡ lookup no_row (reserved_one_operand_rows ++ one_operand_rows) w0 w1
-unfolding reserved_rows ordinary_rows reserved_one_operand_rows reserved_call_rows reserved_extended_rows reserved_before_rows reserved_width_rows reserved_operand_rows address_rows one_operand_rows call_rows many_rows extended_rows jump_rows two_operand_rows
-at_12 w0 w1 h e = entry-lookup 8 0x12 (reserved_one_operand_rows ++ one_operand_rows) w0 w1 (lit≤ tt) refl h e
-
-pub at_13 : (w0 w1 : ℕ) → w0 < 0x10000 → w0 / 0x100 ≡ 0x13 → entry w0 w1 ≡ lookup no_row (reserved_call_rows ++ call_rows) w0 w1
-unfolding reserved_rows ordinary_rows reserved_one_operand_rows reserved_call_rows reserved_extended_rows reserved_before_rows reserved_width_rows reserved_operand_rows address_rows one_operand_rows call_rows many_rows extended_rows jump_rows two_operand_rows
-at_13 w0 w1 h e = entry-lookup 8 0x13 (reserved_call_rows ++ call_rows) w0 w1 (lit≤ tt) refl h e
-
-pub at_14 : (w0 w1 : ℕ) → w0 < 0x10000 → w0 / 0x100 ≡ 0x14 → entry w0 w1 ≡ record { form = PushMany; words = 1 }
-unfolding reserved_rows ordinary_rows reserved_one_operand_rows reserved_call_rows reserved_extended_rows reserved_before_rows reserved_width_rows reserved_operand_rows address_rows one_operand_rows call_rows many_rows extended_rows jump_rows two_operand_rows
-at_14 w0 w1 h e = entry-says 8 0x14 (row 0 0 PushMany 1) w0 w1 (lit≤ tt) refl refl h e
-
-pub at_15 : (w0 w1 : ℕ) → w0 < 0x10000 → w0 / 0x100 ≡ 0x15 → entry w0 w1 ≡ record { form = PushMany; words = 1 }
-unfolding reserved_rows ordinary_rows reserved_one_operand_rows reserved_call_rows reserved_extended_rows reserved_before_rows reserved_width_rows reserved_operand_rows address_rows one_operand_rows call_rows many_rows extended_rows jump_rows two_operand_rows
-at_15 w0 w1 h e = entry-says 8 0x15 (row 0 0 PushMany 1) w0 w1 (lit≤ tt) refl refl h e
-
-pub at_16 : (w0 w1 : ℕ) → w0 < 0x10000 → w0 / 0x100 ≡ 0x16 → entry w0 w1 ≡ record { form = PopMany; words = 1 }
-unfolding reserved_rows ordinary_rows reserved_one_operand_rows reserved_call_rows reserved_extended_rows reserved_before_rows reserved_width_rows reserved_operand_rows address_rows one_operand_rows call_rows many_rows extended_rows jump_rows two_operand_rows
-at_16 w0 w1 h e = entry-says 8 0x16 (row 0 0 PopMany 1) w0 w1 (lit≤ tt) refl refl h e
-
-pub at_17 : (w0 w1 : ℕ) → w0 < 0x10000 → w0 / 0x100 ≡ 0x17 → entry w0 w1 ≡ record { form = PopMany; words = 1 }
-unfolding reserved_rows ordinary_rows reserved_one_operand_rows reserved_call_rows reserved_extended_rows reserved_before_rows reserved_width_rows reserved_operand_rows address_rows one_operand_rows call_rows many_rows extended_rows jump_rows two_operand_rows
-at_17 w0 w1 h e = entry-says 8 0x17 (row 0 0 PopMany 1) w0 w1 (lit≤ tt) refl refl h e
-
-pub at_extension : (w0 w1 : ℕ) → w0 < 0x10000 → w0 / 0x800 ≡ 0x3 → entry w0 w1 ≡ lookup no_row (reserved_extended_rows ++ extended_rows) w0 w1
-unfolding reserved_rows ordinary_rows reserved_one_operand_rows reserved_call_rows reserved_extended_rows reserved_before_rows reserved_width_rows reserved_operand_rows address_rows one_operand_rows call_rows many_rows extended_rows jump_rows two_operand_rows
-at_extension w0 w1 h e = entry-lookup 11 0x3 (reserved_extended_rows ++ extended_rows) w0 w1 (lit≤ tt) refl h e
-
-pub ruleset second_nibbles = (at_10, at_11, at_12, at_13, at_14, at_15, at_16, at_17, at_extension)
-
--- ---- one operand by the upper ten bits
-
--- the rows of one operand where the upper bits of the word leave these
-one-lookup : (k v : ℕ) (rows : List (Row Entry)) (w0 w1 : ℕ) → k ≤ 16 → rest ((0x10000 - 2 ^ k, v * 2 ^ k) ∷ []) [] (reserved_one_operand_rows ++ one_operand_rows) ≡ rest ((0x10000 - 2 ^ k, v * 2 ^ k) ∷ []) [] rows → w0 < 0x10000 → w0 / 2 ^ k ≡ v → lookup no_row (reserved_one_operand_rows ++ one_operand_rows) w0 w1 ≡ lookup no_row rows w0 w1
-one-lookup k v rows w0 w1 a s h e = agree no_row ((0x10000 - 2 ^ k, v * 2 ^ k) ∷ []) [] (reserved_one_operand_rows ++ one_operand_rows) rows w0 w1 s (upper k w0 v a h e, tt) tt
-
-one-says : (k v : ℕ) (row : Row Entry) (w0 w1 : ℕ) → k ≤ 16 → rest ((0x10000 - 2 ^ k, v * 2 ^ k) ∷ []) [] (reserved_one_operand_rows ++ one_operand_rows) ≡ row ∷ [] → trivial row ≡ true → w0 < 0x10000 → w0 / 2 ^ k ≡ v → lookup no_row (reserved_one_operand_rows ++ one_operand_rows) w0 w1 ≡ row.says
-one-says k v row w0 w1 a s t h e = sure no_row ((0x10000 - 2 ^ k, v * 2 ^ k) ∷ []) [] (reserved_one_operand_rows ++ one_operand_rows) row w0 w1 s t (upper k w0 v a h e, tt) tt
-
-pub one_40 : (w0 w1 : ℕ) → w0 < 0x10000 → w0 / 0x40 ≡ 0x40 → lookup no_row (reserved_one_operand_rows ++ one_operand_rows) w0 w1 ≡ lookup no_row (operand_rows (One Rrc)) w0 w1
-unfolding reserved_one_operand_rows one_operand_rows
-one_40 w0 w1 h e = one-lookup 6 0x40 (operand_rows (One Rrc)) w0 w1 (lit≤ tt) refl h e
-
-pub one_41 : (w0 w1 : ℕ) → w0 < 0x10000 → w0 / 0x40 ≡ 0x41 → lookup no_row (reserved_one_operand_rows ++ one_operand_rows) w0 w1 ≡ lookup no_row (operand_rows (One Rrc)) w0 w1
-unfolding reserved_one_operand_rows one_operand_rows
-one_41 w0 w1 h e = one-lookup 6 0x41 (operand_rows (One Rrc)) w0 w1 (lit≤ tt) refl h e
-
-pub one_42 : (w0 w1 : ℕ) → w0 < 0x10000 → w0 / 0x40 ≡ 0x42 → lookup no_row (reserved_one_operand_rows ++ one_operand_rows) w0 w1 ≡ lookup no_row (operand_rows (One Swpb)) w0 w1
-unfolding reserved_one_operand_rows one_operand_rows
-one_42 w0 w1 h e = one-lookup 6 0x42 (operand_rows (One Swpb)) w0 w1 (lit≤ tt) refl h e
-
-pub one_44 : (w0 w1 : ℕ) → w0 < 0x10000 → w0 / 0x40 ≡ 0x44 → lookup no_row (reserved_one_operand_rows ++ one_operand_rows) w0 w1 ≡ lookup no_row (operand_rows (One Rra)) w0 w1
-unfolding reserved_one_operand_rows one_operand_rows
-one_44 w0 w1 h e = one-lookup 6 0x44 (operand_rows (One Rra)) w0 w1 (lit≤ tt) refl h e
-
-pub one_45 : (w0 w1 : ℕ) → w0 < 0x10000 → w0 / 0x40 ≡ 0x45 → lookup no_row (reserved_one_operand_rows ++ one_operand_rows) w0 w1 ≡ lookup no_row (operand_rows (One Rra)) w0 w1
-unfolding reserved_one_operand_rows one_operand_rows
-one_45 w0 w1 h e = one-lookup 6 0x45 (operand_rows (One Rra)) w0 w1 (lit≤ tt) refl h e
-
-pub one_46 : (w0 w1 : ℕ) → w0 < 0x10000 → w0 / 0x40 ≡ 0x46 → lookup no_row (reserved_one_operand_rows ++ one_operand_rows) w0 w1 ≡ lookup no_row (operand_rows (One Sxt)) w0 w1
-unfolding reserved_one_operand_rows one_operand_rows
-one_46 w0 w1 h e = one-lookup 6 0x46 (operand_rows (One Sxt)) w0 w1 (lit≤ tt) refl h e
-
-pub one_43 : (w0 w1 : ℕ) → w0 < 0x10000 → w0 / 0x40 ≡ 0x43 → lookup no_row (reserved_one_operand_rows ++ one_operand_rows) w0 w1 ≡ record { form = Reserved; words = 1 }
-unfolding reserved_one_operand_rows one_operand_rows
-one_43 w0 w1 h e = one-says 6 0x43 (row 0 0 Reserved 1) w0 w1 (lit≤ tt) refl refl h e
-
-pub one_47 : (w0 w1 : ℕ) → w0 < 0x10000 → w0 / 0x40 ≡ 0x47 → lookup no_row (reserved_one_operand_rows ++ one_operand_rows) w0 w1 ≡ record { form = Reserved; words = 1 }
-unfolding reserved_one_operand_rows one_operand_rows
-one_47 w0 w1 h e = one-says 6 0x47 (row 0 0 Reserved 1) w0 w1 (lit≤ tt) refl refl h e
-
-pub one_48 : (w0 w1 : ℕ) → w0 < 0x10000 → w0 / 0x40 ≡ 0x48 → lookup no_row (reserved_one_operand_rows ++ one_operand_rows) w0 w1 ≡ record { form = (One Push); words = 1 }
-unfolding reserved_one_operand_rows one_operand_rows
-one_48 w0 w1 h e = one-says 6 0x48 (row 0 0 (One Push) 1) w0 w1 (lit≤ tt) refl refl h e
-
-pub one_49 : (w0 w1 : ℕ) → w0 < 0x10000 → w0 / 0x40 ≡ 0x49 → lookup no_row (reserved_one_operand_rows ++ one_operand_rows) w0 w1 ≡ record { form = (One Push); words = 1 }
-unfolding reserved_one_operand_rows one_operand_rows
-one_49 w0 w1 h e = one-says 6 0x49 (row 0 0 (One Push) 1) w0 w1 (lit≤ tt) refl refl h e
-
-pub one_4A : (w0 w1 : ℕ) → w0 < 0x10000 → w0 / 0x40 ≡ 0x4A → lookup no_row (reserved_one_operand_rows ++ one_operand_rows) w0 w1 ≡ record { form = (One Call); words = 1 }
-unfolding reserved_one_operand_rows one_operand_rows
-one_4A w0 w1 h e = one-says 6 0x4A (row 0 0 (One Call) 1) w0 w1 (lit≤ tt) refl refl h e
-
-pub one_4B : (w0 w1 : ℕ) → w0 < 0x10000 → w0 / 0x40 ≡ 0x4B → lookup no_row (reserved_one_operand_rows ++ one_operand_rows) w0 w1 ≡ record { form = Reserved; words = 1 }
-unfolding reserved_one_operand_rows one_operand_rows
-one_4B w0 w1 h e = one-says 6 0x4B (row 0 0 Reserved 1) w0 w1 (lit≤ tt) refl refl h e
-
-pub ruleset one_operand_prefixes = (one_40, one_41, one_42, one_44, one_45, one_46, one_43, one_47, one_48, one_49, one_4A, one_4B)
-
--- ---- behind an extension word by the upper four bits of the second word
-
--- the rows of an extension word where the upper bits of the second word leave these
-long-lookup : (k v : ℕ) (rows : List (Row Entry)) (w0 w1 : ℕ) → k ≤ 16 → rest ((0xF800, 0x1800) ∷ []) ((0x10000 - 2 ^ k, v * 2 ^ k) ∷ []) (reserved_extended_rows ++ extended_rows) ≡ rest ((0xF800, 0x1800) ∷ []) ((0x10000 - 2 ^ k, v * 2 ^ k) ∷ []) rows → w0 < 0x10000 → w0 / 0x800 ≡ 3 → w1 < 0x10000 → w1 / 2 ^ k ≡ v → lookup no_row (reserved_extended_rows ++ extended_rows) w0 w1 ≡ lookup no_row rows w0 w1
-long-lookup k v rows w0 w1 a s h e i f = agree no_row ((0xF800, 0x1800) ∷ []) ((0x10000 - 2 ^ k, v * 2 ^ k) ∷ []) (reserved_extended_rows ++ extended_rows) rows w0 w1 s (upper 11 w0 3 (lit≤ tt) h e, tt) (upper k w1 v a i f, tt)
-
-long-says : (k v : ℕ) (row : Row Entry) (w0 w1 : ℕ) → k ≤ 16 → rest ((0xF800, 0x1800) ∷ []) ((0x10000 - 2 ^ k, v * 2 ^ k) ∷ []) (reserved_extended_rows ++ extended_rows) ≡ row ∷ [] → trivial row ≡ true → w0 < 0x10000 → w0 / 0x800 ≡ 3 → w1 < 0x10000 → w1 / 2 ^ k ≡ v → lookup no_row (reserved_extended_rows ++ extended_rows) w0 w1 ≡ row.says
-long-says k v row w0 w1 a s t h e i f = sure no_row ((0xF800, 0x1800) ∷ []) ((0x10000 - 2 ^ k, v * 2 ^ k) ∷ []) (reserved_extended_rows ++ extended_rows) row w0 w1 s t (upper 11 w0 3 (lit≤ tt) h e, tt) (upper k w1 v a i f, tt)
-
-pub long_0 : (w0 w1 : ℕ) → w0 < 0x10000 → w0 / 0x800 ≡ 3 → w1 < 0x10000 → w1 / 0x1000 ≡ 0x0 → lookup no_row (reserved_extended_rows ++ extended_rows) w0 w1 ≡ record { form = Reserved; words = 2 }
-unfolding reserved_extended_rows reserved_before_rows reserved_width_rows reserved_operand_rows extended_rows
-long_0 w0 w1 h e i f = long-says 12 0x0 (long_row 0 0 0 0 Reserved) w0 w1 (lit≤ tt) refl refl h e i f
-
-pub long_2 : (w0 w1 : ℕ) → w0 < 0x10000 → w0 / 0x800 ≡ 3 → w1 < 0x10000 → w1 / 0x1000 ≡ 0x2 → lookup no_row (reserved_extended_rows ++ extended_rows) w0 w1 ≡ record { form = Reserved; words = 2 }
-unfolding reserved_extended_rows reserved_before_rows reserved_width_rows reserved_operand_rows extended_rows
-long_2 w0 w1 h e i f = long-says 12 0x2 (long_row 0 0 0 0 Reserved) w0 w1 (lit≤ tt) refl refl h e i f
-
-pub long_3 : (w0 w1 : ℕ) → w0 < 0x10000 → w0 / 0x800 ≡ 3 → w1 < 0x10000 → w1 / 0x1000 ≡ 0x3 → lookup no_row (reserved_extended_rows ++ extended_rows) w0 w1 ≡ record { form = Reserved; words = 2 }
-unfolding reserved_extended_rows reserved_before_rows reserved_width_rows reserved_operand_rows extended_rows
-long_3 w0 w1 h e i f = long-says 12 0x3 (long_row 0 0 0 0 Reserved) w0 w1 (lit≤ tt) refl refl h e i f
-
-pub long_4 : (w0 w1 : ℕ) → w0 < 0x10000 → w0 / 0x800 ≡ 3 → w1 < 0x10000 → w1 / 0x1000 ≡ 0x4 → lookup no_row (reserved_extended_rows ++ extended_rows) w0 w1 ≡ lookup no_row (long_width_rows (LongTwo Mov)) w0 w1
-unfolding reserved_extended_rows reserved_before_rows reserved_width_rows reserved_operand_rows extended_rows
-long_4 w0 w1 h e i f = long-lookup 12 0x4 (long_width_rows (LongTwo Mov)) w0 w1 (lit≤ tt) refl h e i f
-
-pub long_5 : (w0 w1 : ℕ) → w0 < 0x10000 → w0 / 0x800 ≡ 3 → w1 < 0x10000 → w1 / 0x1000 ≡ 0x5 → lookup no_row (reserved_extended_rows ++ extended_rows) w0 w1 ≡ lookup no_row (long_width_rows (LongTwo Add)) w0 w1
-unfolding reserved_extended_rows reserved_before_rows reserved_width_rows reserved_operand_rows extended_rows
-long_5 w0 w1 h e i f = long-lookup 12 0x5 (long_width_rows (LongTwo Add)) w0 w1 (lit≤ tt) refl h e i f
-
-pub long_6 : (w0 w1 : ℕ) → w0 < 0x10000 → w0 / 0x800 ≡ 3 → w1 < 0x10000 → w1 / 0x1000 ≡ 0x6 → lookup no_row (reserved_extended_rows ++ extended_rows) w0 w1 ≡ lookup no_row (long_width_rows (LongTwo Addc)) w0 w1
-unfolding reserved_extended_rows reserved_before_rows reserved_width_rows reserved_operand_rows extended_rows
-long_6 w0 w1 h e i f = long-lookup 12 0x6 (long_width_rows (LongTwo Addc)) w0 w1 (lit≤ tt) refl h e i f
-
-pub long_7 : (w0 w1 : ℕ) → w0 < 0x10000 → w0 / 0x800 ≡ 3 → w1 < 0x10000 → w1 / 0x1000 ≡ 0x7 → lookup no_row (reserved_extended_rows ++ extended_rows) w0 w1 ≡ lookup no_row (long_width_rows (LongTwo Subc)) w0 w1
-unfolding reserved_extended_rows reserved_before_rows reserved_width_rows reserved_operand_rows extended_rows
-long_7 w0 w1 h e i f = long-lookup 12 0x7 (long_width_rows (LongTwo Subc)) w0 w1 (lit≤ tt) refl h e i f
-
-pub long_8 : (w0 w1 : ℕ) → w0 < 0x10000 → w0 / 0x800 ≡ 3 → w1 < 0x10000 → w1 / 0x1000 ≡ 0x8 → lookup no_row (reserved_extended_rows ++ extended_rows) w0 w1 ≡ lookup no_row (long_width_rows (LongTwo Sub)) w0 w1
-unfolding reserved_extended_rows reserved_before_rows reserved_width_rows reserved_operand_rows extended_rows
-long_8 w0 w1 h e i f = long-lookup 12 0x8 (long_width_rows (LongTwo Sub)) w0 w1 (lit≤ tt) refl h e i f
-
-pub long_9 : (w0 w1 : ℕ) → w0 < 0x10000 → w0 / 0x800 ≡ 3 → w1 < 0x10000 → w1 / 0x1000 ≡ 0x9 → lookup no_row (reserved_extended_rows ++ extended_rows) w0 w1 ≡ lookup no_row (long_width_rows (LongTwo Cmp)) w0 w1
-unfolding reserved_extended_rows reserved_before_rows reserved_width_rows reserved_operand_rows extended_rows
-long_9 w0 w1 h e i f = long-lookup 12 0x9 (long_width_rows (LongTwo Cmp)) w0 w1 (lit≤ tt) refl h e i f
-
-pub long_A : (w0 w1 : ℕ) → w0 < 0x10000 → w0 / 0x800 ≡ 3 → w1 < 0x10000 → w1 / 0x1000 ≡ 0xA → lookup no_row (reserved_extended_rows ++ extended_rows) w0 w1 ≡ lookup no_row (long_width_rows (LongTwo Dadd)) w0 w1
-unfolding reserved_extended_rows reserved_before_rows reserved_width_rows reserved_operand_rows extended_rows
-long_A w0 w1 h e i f = long-lookup 12 0xA (long_width_rows (LongTwo Dadd)) w0 w1 (lit≤ tt) refl h e i f
-
-pub long_B : (w0 w1 : ℕ) → w0 < 0x10000 → w0 / 0x800 ≡ 3 → w1 < 0x10000 → w1 / 0x1000 ≡ 0xB → lookup no_row (reserved_extended_rows ++ extended_rows) w0 w1 ≡ lookup no_row (long_width_rows (LongTwo Bit)) w0 w1
-unfolding reserved_extended_rows reserved_before_rows reserved_width_rows reserved_operand_rows extended_rows
-long_B w0 w1 h e i f = long-lookup 12 0xB (long_width_rows (LongTwo Bit)) w0 w1 (lit≤ tt) refl h e i f
-
-pub long_C : (w0 w1 : ℕ) → w0 < 0x10000 → w0 / 0x800 ≡ 3 → w1 < 0x10000 → w1 / 0x1000 ≡ 0xC → lookup no_row (reserved_extended_rows ++ extended_rows) w0 w1 ≡ lookup no_row (long_width_rows (LongTwo Bic)) w0 w1
-unfolding reserved_extended_rows reserved_before_rows reserved_width_rows reserved_operand_rows extended_rows
-long_C w0 w1 h e i f = long-lookup 12 0xC (long_width_rows (LongTwo Bic)) w0 w1 (lit≤ tt) refl h e i f
-
-pub long_D : (w0 w1 : ℕ) → w0 < 0x10000 → w0 / 0x800 ≡ 3 → w1 < 0x10000 → w1 / 0x1000 ≡ 0xD → lookup no_row (reserved_extended_rows ++ extended_rows) w0 w1 ≡ lookup no_row (long_width_rows (LongTwo Bis)) w0 w1
-unfolding reserved_extended_rows reserved_before_rows reserved_width_rows reserved_operand_rows extended_rows
-long_D w0 w1 h e i f = long-lookup 12 0xD (long_width_rows (LongTwo Bis)) w0 w1 (lit≤ tt) refl h e i f
-
-pub long_E : (w0 w1 : ℕ) → w0 < 0x10000 → w0 / 0x800 ≡ 3 → w1 < 0x10000 → w1 / 0x1000 ≡ 0xE → lookup no_row (reserved_extended_rows ++ extended_rows) w0 w1 ≡ lookup no_row (long_width_rows (LongTwo Xor)) w0 w1
-unfolding reserved_extended_rows reserved_before_rows reserved_width_rows reserved_operand_rows extended_rows
-long_E w0 w1 h e i f = long-lookup 12 0xE (long_width_rows (LongTwo Xor)) w0 w1 (lit≤ tt) refl h e i f
-
-pub long_F : (w0 w1 : ℕ) → w0 < 0x10000 → w0 / 0x800 ≡ 3 → w1 < 0x10000 → w1 / 0x1000 ≡ 0xF → lookup no_row (reserved_extended_rows ++ extended_rows) w0 w1 ≡ lookup no_row (long_width_rows (LongTwo And)) w0 w1
-unfolding reserved_extended_rows reserved_before_rows reserved_width_rows reserved_operand_rows extended_rows
-long_F w0 w1 h e i f = long-lookup 12 0xF (long_width_rows (LongTwo And)) w0 w1 (lit≤ tt) refl h e i f
-
-pub ruleset long_nibbles = (long_0, long_2, long_3, long_4, long_5, long_6, long_7, long_8, long_9, long_A, long_B, long_C, long_D, long_E, long_F)
-
--- ---- and by its upper nine bits, where it has one operand
+abbrev one_word : Form → Entry
+one_word form = record { form = form; words = 1 }
+
+abbrev two_words : Form → Entry
+two_words form = record { form = form; words = 2 }
+
+-- the bits of a word from bit k on, as a number
+abbrev high : ℕ → ℕ → List (ℕ × ℕ)
+high k v = (0x10000 - 2 ^ k, v * 2 ^ k) ∷ []
+
+upper : (k w v : ℕ) → k ≤ 16 → w < 0x10000 → w / 2 ^ k ≡ v → Knows (high k v) w
+upper k w v a h e = (and_high_mask 16 k a w h ∙ ap (λ n. n * 2 ^ k) e, tt)
+
+abbrev all_rows : List (Row Entry)
+all_rows = reserved_rows ++ ordinary_rows
+
+abbrev one_rows : List (Row Entry)
+one_rows = reserved_one_operand_rows ++ one_operand_rows
+
+abbrev long_rows : List (Row Entry)
+long_rows = reserved_extended_rows ++ extended_rows
+
+module _ (w0 w1 : ℕ) (fits : w0 < 0x10000) where
+  -- what the table says where the upper bits leave these rows, or one row
+  entry-lookup : (k v : ℕ) (left : List (Row Entry)) → k ≤ 16 →
+      rest (high k v) [] all_rows ≡ rest (high k v) [] left → w0 / 2 ^ k ≡ v →
+      entry w0 w1 ≡ lookup no_row left w0 w1
+  entry-lookup k v left a s e =
+      sym (lookup-entry w0 w1) ∙ agree no_row (high k v) [] all_rows left w0 w1 s (upper k w0 v a fits e) tt
+
+  entry-says : (k v : ℕ) (left : Row Entry) → k ≤ 16 → rest (high k v) [] all_rows ≡ left ∷ [] →
+      trivial left ≡ true → w0 / 2 ^ k ≡ v → entry w0 w1 ≡ left.says
+  entry-says k v left a s t e =
+      sym (lookup-entry w0 w1)
+        ∙ sure no_row (high k v) [] all_rows left w0 w1 s t (upper k w0 v a fits e) tt
+
+  -- ---- the first word by its upper four bits
+
+  pub at_0 : w0 / 0x1000 ≡ 0x0 → entry w0 w1 ≡ lookup no_row address_rows w0 w1
+  unfolding reserved_rows ordinary_rows reserved_one_operand_rows reserved_call_rows
+      reserved_extended_rows reserved_before_rows reserved_width_rows reserved_operand_rows address_rows
+      one_operand_rows call_rows many_rows extended_rows jump_rows two_operand_rows
+  at_0 e = entry-lookup 12 0x0 address_rows (lit≤ tt) refl e
+
+  pub at_2 : w0 / 0x1000 ≡ 0x2 → entry w0 w1 ≡ one_word Jump
+  unfolding reserved_rows ordinary_rows reserved_one_operand_rows reserved_call_rows
+      reserved_extended_rows reserved_before_rows reserved_width_rows reserved_operand_rows address_rows
+      one_operand_rows call_rows many_rows extended_rows jump_rows two_operand_rows
+  at_2 e = entry-says 12 0x2 (row 0 0 Jump 1) (lit≤ tt) refl refl e
+
+  pub at_3 : w0 / 0x1000 ≡ 0x3 → entry w0 w1 ≡ one_word Jump
+  unfolding reserved_rows ordinary_rows reserved_one_operand_rows reserved_call_rows
+      reserved_extended_rows reserved_before_rows reserved_width_rows reserved_operand_rows address_rows
+      one_operand_rows call_rows many_rows extended_rows jump_rows two_operand_rows
+  at_3 e = entry-says 12 0x3 (row 0 0 Jump 1) (lit≤ tt) refl refl e
+
+  pub at_4 : w0 / 0x1000 ≡ 0x4 → entry w0 w1 ≡ one_word (Two Mov)
+  unfolding reserved_rows ordinary_rows reserved_one_operand_rows reserved_call_rows
+      reserved_extended_rows reserved_before_rows reserved_width_rows reserved_operand_rows address_rows
+      one_operand_rows call_rows many_rows extended_rows jump_rows two_operand_rows
+  at_4 e = entry-says 12 0x4 (row 0 0 (Two Mov) 1) (lit≤ tt) refl refl e
+
+  pub at_5 : w0 / 0x1000 ≡ 0x5 → entry w0 w1 ≡ one_word (Two Add)
+  unfolding reserved_rows ordinary_rows reserved_one_operand_rows reserved_call_rows
+      reserved_extended_rows reserved_before_rows reserved_width_rows reserved_operand_rows address_rows
+      one_operand_rows call_rows many_rows extended_rows jump_rows two_operand_rows
+  at_5 e = entry-says 12 0x5 (row 0 0 (Two Add) 1) (lit≤ tt) refl refl e
+
+  pub at_6 : w0 / 0x1000 ≡ 0x6 → entry w0 w1 ≡ one_word (Two Addc)
+  unfolding reserved_rows ordinary_rows reserved_one_operand_rows reserved_call_rows
+      reserved_extended_rows reserved_before_rows reserved_width_rows reserved_operand_rows address_rows
+      one_operand_rows call_rows many_rows extended_rows jump_rows two_operand_rows
+  at_6 e = entry-says 12 0x6 (row 0 0 (Two Addc) 1) (lit≤ tt) refl refl e
+
+  pub at_7 : w0 / 0x1000 ≡ 0x7 → entry w0 w1 ≡ one_word (Two Subc)
+  unfolding reserved_rows ordinary_rows reserved_one_operand_rows reserved_call_rows
+      reserved_extended_rows reserved_before_rows reserved_width_rows reserved_operand_rows address_rows
+      one_operand_rows call_rows many_rows extended_rows jump_rows two_operand_rows
+  at_7 e = entry-says 12 0x7 (row 0 0 (Two Subc) 1) (lit≤ tt) refl refl e
+
+  pub at_8 : w0 / 0x1000 ≡ 0x8 → entry w0 w1 ≡ one_word (Two Sub)
+  unfolding reserved_rows ordinary_rows reserved_one_operand_rows reserved_call_rows
+      reserved_extended_rows reserved_before_rows reserved_width_rows reserved_operand_rows address_rows
+      one_operand_rows call_rows many_rows extended_rows jump_rows two_operand_rows
+  at_8 e = entry-says 12 0x8 (row 0 0 (Two Sub) 1) (lit≤ tt) refl refl e
+
+  pub at_9 : w0 / 0x1000 ≡ 0x9 → entry w0 w1 ≡ one_word (Two Cmp)
+  unfolding reserved_rows ordinary_rows reserved_one_operand_rows reserved_call_rows
+      reserved_extended_rows reserved_before_rows reserved_width_rows reserved_operand_rows address_rows
+      one_operand_rows call_rows many_rows extended_rows jump_rows two_operand_rows
+  at_9 e = entry-says 12 0x9 (row 0 0 (Two Cmp) 1) (lit≤ tt) refl refl e
+
+  pub at_A : w0 / 0x1000 ≡ 0xA → entry w0 w1 ≡ one_word (Two Dadd)
+  unfolding reserved_rows ordinary_rows reserved_one_operand_rows reserved_call_rows
+      reserved_extended_rows reserved_before_rows reserved_width_rows reserved_operand_rows address_rows
+      one_operand_rows call_rows many_rows extended_rows jump_rows two_operand_rows
+  at_A e = entry-says 12 0xA (row 0 0 (Two Dadd) 1) (lit≤ tt) refl refl e
+
+  pub at_B : w0 / 0x1000 ≡ 0xB → entry w0 w1 ≡ one_word (Two Bit)
+  unfolding reserved_rows ordinary_rows reserved_one_operand_rows reserved_call_rows
+      reserved_extended_rows reserved_before_rows reserved_width_rows reserved_operand_rows address_rows
+      one_operand_rows call_rows many_rows extended_rows jump_rows two_operand_rows
+  at_B e = entry-says 12 0xB (row 0 0 (Two Bit) 1) (lit≤ tt) refl refl e
+
+  pub at_C : w0 / 0x1000 ≡ 0xC → entry w0 w1 ≡ one_word (Two Bic)
+  unfolding reserved_rows ordinary_rows reserved_one_operand_rows reserved_call_rows
+      reserved_extended_rows reserved_before_rows reserved_width_rows reserved_operand_rows address_rows
+      one_operand_rows call_rows many_rows extended_rows jump_rows two_operand_rows
+  at_C e = entry-says 12 0xC (row 0 0 (Two Bic) 1) (lit≤ tt) refl refl e
+
+  pub at_D : w0 / 0x1000 ≡ 0xD → entry w0 w1 ≡ one_word (Two Bis)
+  unfolding reserved_rows ordinary_rows reserved_one_operand_rows reserved_call_rows
+      reserved_extended_rows reserved_before_rows reserved_width_rows reserved_operand_rows address_rows
+      one_operand_rows call_rows many_rows extended_rows jump_rows two_operand_rows
+  at_D e = entry-says 12 0xD (row 0 0 (Two Bis) 1) (lit≤ tt) refl refl e
+
+  pub at_E : w0 / 0x1000 ≡ 0xE → entry w0 w1 ≡ one_word (Two Xor)
+  unfolding reserved_rows ordinary_rows reserved_one_operand_rows reserved_call_rows
+      reserved_extended_rows reserved_before_rows reserved_width_rows reserved_operand_rows address_rows
+      one_operand_rows call_rows many_rows extended_rows jump_rows two_operand_rows
+  at_E e = entry-says 12 0xE (row 0 0 (Two Xor) 1) (lit≤ tt) refl refl e
+
+  pub at_F : w0 / 0x1000 ≡ 0xF → entry w0 w1 ≡ one_word (Two And)
+  unfolding reserved_rows ordinary_rows reserved_one_operand_rows reserved_call_rows
+      reserved_extended_rows reserved_before_rows reserved_width_rows reserved_operand_rows address_rows
+      one_operand_rows call_rows many_rows extended_rows jump_rows two_operand_rows
+  at_F e = entry-says 12 0xF (row 0 0 (Two And) 1) (lit≤ tt) refl refl e
+
+  -- ---- from 1000h on by the upper eight bits
+
+  pub at_10 : w0 / 0x100 ≡ 0x10 → entry w0 w1 ≡ lookup no_row one_rows w0 w1
+  unfolding reserved_rows ordinary_rows reserved_one_operand_rows reserved_call_rows
+      reserved_extended_rows reserved_before_rows reserved_width_rows reserved_operand_rows address_rows
+      one_operand_rows call_rows many_rows extended_rows jump_rows two_operand_rows
+  at_10 e = entry-lookup 8 0x10 one_rows (lit≤ tt) refl e
+
+  pub at_11 : w0 / 0x100 ≡ 0x11 → entry w0 w1 ≡ lookup no_row one_rows w0 w1
+  unfolding reserved_rows ordinary_rows reserved_one_operand_rows reserved_call_rows
+      reserved_extended_rows reserved_before_rows reserved_width_rows reserved_operand_rows address_rows
+      one_operand_rows call_rows many_rows extended_rows jump_rows two_operand_rows
+  at_11 e = entry-lookup 8 0x11 one_rows (lit≤ tt) refl e
+
+  pub at_12 : w0 / 0x100 ≡ 0x12 → entry w0 w1 ≡ lookup no_row one_rows w0 w1
+  unfolding reserved_rows ordinary_rows reserved_one_operand_rows reserved_call_rows
+      reserved_extended_rows reserved_before_rows reserved_width_rows reserved_operand_rows address_rows
+      one_operand_rows call_rows many_rows extended_rows jump_rows two_operand_rows
+  at_12 e = entry-lookup 8 0x12 one_rows (lit≤ tt) refl e
+
+  pub at_13 : w0 / 0x100 ≡ 0x13 → entry w0 w1 ≡ lookup no_row (reserved_call_rows ++ call_rows) w0 w1
+  unfolding reserved_rows ordinary_rows reserved_one_operand_rows reserved_call_rows
+      reserved_extended_rows reserved_before_rows reserved_width_rows reserved_operand_rows address_rows
+      one_operand_rows call_rows many_rows extended_rows jump_rows two_operand_rows
+  at_13 e = entry-lookup 8 0x13 (reserved_call_rows ++ call_rows) (lit≤ tt) refl e
+
+  pub at_14 : w0 / 0x100 ≡ 0x14 → entry w0 w1 ≡ one_word PushMany
+  unfolding reserved_rows ordinary_rows reserved_one_operand_rows reserved_call_rows
+      reserved_extended_rows reserved_before_rows reserved_width_rows reserved_operand_rows address_rows
+      one_operand_rows call_rows many_rows extended_rows jump_rows two_operand_rows
+  at_14 e = entry-says 8 0x14 (row 0 0 PushMany 1) (lit≤ tt) refl refl e
+
+  pub at_15 : w0 / 0x100 ≡ 0x15 → entry w0 w1 ≡ one_word PushMany
+  unfolding reserved_rows ordinary_rows reserved_one_operand_rows reserved_call_rows
+      reserved_extended_rows reserved_before_rows reserved_width_rows reserved_operand_rows address_rows
+      one_operand_rows call_rows many_rows extended_rows jump_rows two_operand_rows
+  at_15 e = entry-says 8 0x15 (row 0 0 PushMany 1) (lit≤ tt) refl refl e
+
+  pub at_16 : w0 / 0x100 ≡ 0x16 → entry w0 w1 ≡ one_word PopMany
+  unfolding reserved_rows ordinary_rows reserved_one_operand_rows reserved_call_rows
+      reserved_extended_rows reserved_before_rows reserved_width_rows reserved_operand_rows address_rows
+      one_operand_rows call_rows many_rows extended_rows jump_rows two_operand_rows
+  at_16 e = entry-says 8 0x16 (row 0 0 PopMany 1) (lit≤ tt) refl refl e
+
+  pub at_17 : w0 / 0x100 ≡ 0x17 → entry w0 w1 ≡ one_word PopMany
+  unfolding reserved_rows ordinary_rows reserved_one_operand_rows reserved_call_rows
+      reserved_extended_rows reserved_before_rows reserved_width_rows reserved_operand_rows address_rows
+      one_operand_rows call_rows many_rows extended_rows jump_rows two_operand_rows
+  at_17 e = entry-says 8 0x17 (row 0 0 PopMany 1) (lit≤ tt) refl refl e
+
+  pub at_extension : w0 / 0x800 ≡ 0x3 → entry w0 w1 ≡ lookup no_row long_rows w0 w1
+  unfolding reserved_rows ordinary_rows reserved_one_operand_rows reserved_call_rows
+      reserved_extended_rows reserved_before_rows reserved_width_rows reserved_operand_rows address_rows
+      one_operand_rows call_rows many_rows extended_rows jump_rows two_operand_rows
+  at_extension e = entry-lookup 11 0x3 long_rows (lit≤ tt) refl e
+
+  -- ---- one operand by the upper ten bits
+
+  one-lookup : (v : ℕ) (left : List (Row Entry)) →
+      rest (high 6 v) [] one_rows ≡ rest (high 6 v) [] left → w0 / 0x40 ≡ v →
+      lookup no_row one_rows w0 w1 ≡ lookup no_row left w0 w1
+  one-lookup v left s e =
+      agree no_row (high 6 v) [] one_rows left w0 w1 s (upper 6 w0 v (lit≤ tt) fits e) tt
+
+  one-says : (v : ℕ) (left : Row Entry) → rest (high 6 v) [] one_rows ≡ left ∷ [] → trivial left ≡ true →
+      w0 / 0x40 ≡ v → lookup no_row one_rows w0 w1 ≡ left.says
+  one-says v left s t e =
+      sure no_row (high 6 v) [] one_rows left w0 w1 s t (upper 6 w0 v (lit≤ tt) fits e) tt
+
+  pub one_40 : w0 / 0x40 ≡ 0x40 →
+      lookup no_row one_rows w0 w1 ≡ lookup no_row (operand_rows (One Rrc)) w0 w1
+  unfolding reserved_one_operand_rows one_operand_rows
+  one_40 e = one-lookup 0x40 (operand_rows (One Rrc)) refl e
+
+  pub one_41 : w0 / 0x40 ≡ 0x41 →
+      lookup no_row one_rows w0 w1 ≡ lookup no_row (operand_rows (One Rrc)) w0 w1
+  unfolding reserved_one_operand_rows one_operand_rows
+  one_41 e = one-lookup 0x41 (operand_rows (One Rrc)) refl e
+
+  pub one_42 : w0 / 0x40 ≡ 0x42 →
+      lookup no_row one_rows w0 w1 ≡ lookup no_row (operand_rows (One Swpb)) w0 w1
+  unfolding reserved_one_operand_rows one_operand_rows
+  one_42 e = one-lookup 0x42 (operand_rows (One Swpb)) refl e
+
+  pub one_44 : w0 / 0x40 ≡ 0x44 →
+      lookup no_row one_rows w0 w1 ≡ lookup no_row (operand_rows (One Rra)) w0 w1
+  unfolding reserved_one_operand_rows one_operand_rows
+  one_44 e = one-lookup 0x44 (operand_rows (One Rra)) refl e
+
+  pub one_45 : w0 / 0x40 ≡ 0x45 →
+      lookup no_row one_rows w0 w1 ≡ lookup no_row (operand_rows (One Rra)) w0 w1
+  unfolding reserved_one_operand_rows one_operand_rows
+  one_45 e = one-lookup 0x45 (operand_rows (One Rra)) refl e
+
+  pub one_46 : w0 / 0x40 ≡ 0x46 →
+      lookup no_row one_rows w0 w1 ≡ lookup no_row (operand_rows (One Sxt)) w0 w1
+  unfolding reserved_one_operand_rows one_operand_rows
+  one_46 e = one-lookup 0x46 (operand_rows (One Sxt)) refl e
+
+  pub one_43 : w0 / 0x40 ≡ 0x43 → lookup no_row one_rows w0 w1 ≡ one_word Reserved
+  unfolding reserved_one_operand_rows one_operand_rows
+  one_43 e = one-says 0x43 (row 0 0 Reserved 1) refl refl e
+
+  pub one_47 : w0 / 0x40 ≡ 0x47 → lookup no_row one_rows w0 w1 ≡ one_word Reserved
+  unfolding reserved_one_operand_rows one_operand_rows
+  one_47 e = one-says 0x47 (row 0 0 Reserved 1) refl refl e
+
+  pub one_48 : w0 / 0x40 ≡ 0x48 → lookup no_row one_rows w0 w1 ≡ one_word (One Push)
+  unfolding reserved_one_operand_rows one_operand_rows
+  one_48 e = one-says 0x48 (row 0 0 (One Push) 1) refl refl e
+
+  pub one_49 : w0 / 0x40 ≡ 0x49 → lookup no_row one_rows w0 w1 ≡ one_word (One Push)
+  unfolding reserved_one_operand_rows one_operand_rows
+  one_49 e = one-says 0x49 (row 0 0 (One Push) 1) refl refl e
+
+  pub one_4A : w0 / 0x40 ≡ 0x4A → lookup no_row one_rows w0 w1 ≡ one_word (One Call)
+  unfolding reserved_one_operand_rows one_operand_rows
+  one_4A e = one-says 0x4A (row 0 0 (One Call) 1) refl refl e
+
+  pub one_4B : w0 / 0x40 ≡ 0x4B → lookup no_row one_rows w0 w1 ≡ one_word Reserved
+  unfolding reserved_one_operand_rows one_operand_rows
+  one_4B e = one-says 0x4B (row 0 0 Reserved 1) refl refl e
+
+abbrev extension : List (ℕ × ℕ)
+extension = (0xF800, 0x1800) ∷ []
+
+module _ (w0 w1 : ℕ) (fits : w0 < 0x10000) (is_extension : w0 / 0x800 ≡ 3) (next_fits : w1 < 0x10000) where
+  extension_known : bit_and w0 0xF800 ≡ 0x1800
+  extension_known = (upper 11 w0 3 (lit≤ tt) fits is_extension).0
+
+  -- the rows of an extension word where the upper bits of the second word leave these, or one
+  long-lookup : (k v : ℕ) (left : List (Row Entry)) → k ≤ 16 →
+      rest extension (high k v) long_rows ≡ rest extension (high k v) left → w1 / 2 ^ k ≡ v →
+      lookup no_row long_rows w0 w1 ≡ lookup no_row left w0 w1
+  long-lookup k v left a s e =
+      agree no_row extension (high k v) long_rows left w0 w1 s (extension_known, tt)
+          (upper k w1 v a next_fits e)
+
+  long-reserved : (k v : ℕ) → k ≤ 16 →
+      rest extension (high k v) long_rows ≡ long_row 0 0 0 0 Reserved ∷ [] →
+      w1 / 2 ^ k ≡ v → lookup no_row long_rows w0 w1 ≡ two_words Reserved
+  long-reserved k v a s e =
+      sure no_row extension (high k v) long_rows (long_row 0 0 0 0 Reserved) w0 w1 s refl
+          (extension_known, tt) (upper k w1 v a next_fits e)
+
+  -- ---- by the upper four bits of the second word
+
+  pub long_0 : w1 / 0x1000 ≡ 0x0 → lookup no_row long_rows w0 w1 ≡ two_words Reserved
+  unfolding reserved_extended_rows reserved_before_rows reserved_width_rows reserved_operand_rows
+      extended_rows
+  long_0 e = long-reserved 12 0x0 (lit≤ tt) refl e
+
+  pub long_2 : w1 / 0x1000 ≡ 0x2 → lookup no_row long_rows w0 w1 ≡ two_words Reserved
+  unfolding reserved_extended_rows reserved_before_rows reserved_width_rows reserved_operand_rows
+      extended_rows
+  long_2 e = long-reserved 12 0x2 (lit≤ tt) refl e
+
+  pub long_3 : w1 / 0x1000 ≡ 0x3 → lookup no_row long_rows w0 w1 ≡ two_words Reserved
+  unfolding reserved_extended_rows reserved_before_rows reserved_width_rows reserved_operand_rows
+      extended_rows
+  long_3 e = long-reserved 12 0x3 (lit≤ tt) refl e
+
+  pub long_4 : w1 / 0x1000 ≡ 0x4 →
+      lookup no_row long_rows w0 w1 ≡ lookup no_row (long_width_rows (LongTwo Mov)) w0 w1
+  unfolding reserved_extended_rows reserved_before_rows reserved_width_rows reserved_operand_rows
+      extended_rows
+  long_4 e = long-lookup 12 0x4 (long_width_rows (LongTwo Mov)) (lit≤ tt) refl e
+
+  pub long_5 : w1 / 0x1000 ≡ 0x5 →
+      lookup no_row long_rows w0 w1 ≡ lookup no_row (long_width_rows (LongTwo Add)) w0 w1
+  unfolding reserved_extended_rows reserved_before_rows reserved_width_rows reserved_operand_rows
+      extended_rows
+  long_5 e = long-lookup 12 0x5 (long_width_rows (LongTwo Add)) (lit≤ tt) refl e
+
+  pub long_6 : w1 / 0x1000 ≡ 0x6 →
+      lookup no_row long_rows w0 w1 ≡ lookup no_row (long_width_rows (LongTwo Addc)) w0 w1
+  unfolding reserved_extended_rows reserved_before_rows reserved_width_rows reserved_operand_rows
+      extended_rows
+  long_6 e = long-lookup 12 0x6 (long_width_rows (LongTwo Addc)) (lit≤ tt) refl e
+
+  pub long_7 : w1 / 0x1000 ≡ 0x7 →
+      lookup no_row long_rows w0 w1 ≡ lookup no_row (long_width_rows (LongTwo Subc)) w0 w1
+  unfolding reserved_extended_rows reserved_before_rows reserved_width_rows reserved_operand_rows
+      extended_rows
+  long_7 e = long-lookup 12 0x7 (long_width_rows (LongTwo Subc)) (lit≤ tt) refl e
+
+  pub long_8 : w1 / 0x1000 ≡ 0x8 →
+      lookup no_row long_rows w0 w1 ≡ lookup no_row (long_width_rows (LongTwo Sub)) w0 w1
+  unfolding reserved_extended_rows reserved_before_rows reserved_width_rows reserved_operand_rows
+      extended_rows
+  long_8 e = long-lookup 12 0x8 (long_width_rows (LongTwo Sub)) (lit≤ tt) refl e
+
+  pub long_9 : w1 / 0x1000 ≡ 0x9 →
+      lookup no_row long_rows w0 w1 ≡ lookup no_row (long_width_rows (LongTwo Cmp)) w0 w1
+  unfolding reserved_extended_rows reserved_before_rows reserved_width_rows reserved_operand_rows
+      extended_rows
+  long_9 e = long-lookup 12 0x9 (long_width_rows (LongTwo Cmp)) (lit≤ tt) refl e
+
+  pub long_A : w1 / 0x1000 ≡ 0xA →
+      lookup no_row long_rows w0 w1 ≡ lookup no_row (long_width_rows (LongTwo Dadd)) w0 w1
+  unfolding reserved_extended_rows reserved_before_rows reserved_width_rows reserved_operand_rows
+      extended_rows
+  long_A e = long-lookup 12 0xA (long_width_rows (LongTwo Dadd)) (lit≤ tt) refl e
+
+  pub long_B : w1 / 0x1000 ≡ 0xB →
+      lookup no_row long_rows w0 w1 ≡ lookup no_row (long_width_rows (LongTwo Bit)) w0 w1
+  unfolding reserved_extended_rows reserved_before_rows reserved_width_rows reserved_operand_rows
+      extended_rows
+  long_B e = long-lookup 12 0xB (long_width_rows (LongTwo Bit)) (lit≤ tt) refl e
+
+  pub long_C : w1 / 0x1000 ≡ 0xC →
+      lookup no_row long_rows w0 w1 ≡ lookup no_row (long_width_rows (LongTwo Bic)) w0 w1
+  unfolding reserved_extended_rows reserved_before_rows reserved_width_rows reserved_operand_rows
+      extended_rows
+  long_C e = long-lookup 12 0xC (long_width_rows (LongTwo Bic)) (lit≤ tt) refl e
+
+  pub long_D : w1 / 0x1000 ≡ 0xD →
+      lookup no_row long_rows w0 w1 ≡ lookup no_row (long_width_rows (LongTwo Bis)) w0 w1
+  unfolding reserved_extended_rows reserved_before_rows reserved_width_rows reserved_operand_rows
+      extended_rows
+  long_D e = long-lookup 12 0xD (long_width_rows (LongTwo Bis)) (lit≤ tt) refl e
+
+  pub long_E : w1 / 0x1000 ≡ 0xE →
+      lookup no_row long_rows w0 w1 ≡ lookup no_row (long_width_rows (LongTwo Xor)) w0 w1
+  unfolding reserved_extended_rows reserved_before_rows reserved_width_rows reserved_operand_rows
+      extended_rows
+  long_E e = long-lookup 12 0xE (long_width_rows (LongTwo Xor)) (lit≤ tt) refl e
+
+  pub long_F : w1 / 0x1000 ≡ 0xF →
+      lookup no_row long_rows w0 w1 ≡ lookup no_row (long_width_rows (LongTwo And)) w0 w1
+  unfolding reserved_extended_rows reserved_before_rows reserved_width_rows reserved_operand_rows
+      extended_rows
+  long_F e = long-lookup 12 0xF (long_width_rows (LongTwo And)) (lit≤ tt) refl e
+
+  -- ---- and by its upper nine bits, where it has one operand
+
+  pub long_25 : w1 / 0x80 ≡ 0x25 → lookup no_row long_rows w0 w1 ≡ two_words Reserved
+  unfolding reserved_extended_rows reserved_before_rows reserved_width_rows reserved_operand_rows
+      extended_rows
+  long_25 e = long-reserved 7 0x25 (lit≤ tt) refl e
+
+  pub long_13 : w1 / 0x100 ≡ 0x13 → lookup no_row long_rows w0 w1 ≡ two_words Reserved
+  unfolding reserved_extended_rows reserved_before_rows reserved_width_rows reserved_operand_rows
+      extended_rows
+  long_13 e = long-reserved 8 0x13 (lit≤ tt) refl e
+
+  pub long_14 : w1 / 0x400 ≡ 0x5 → lookup no_row long_rows w0 w1 ≡ two_words Reserved
+  unfolding reserved_extended_rows reserved_before_rows reserved_width_rows reserved_operand_rows
+      extended_rows
+  long_14 e = long-reserved 10 0x5 (lit≤ tt) refl e
+
+  pub long_18 : w1 / 0x800 ≡ 0x3 → lookup no_row long_rows w0 w1 ≡ two_words Reserved
+  unfolding reserved_extended_rows reserved_before_rows reserved_width_rows reserved_operand_rows
+      extended_rows
+  long_18 e = long-reserved 11 0x3 (lit≤ tt) refl e
+
+-- These rows are told apart where bits 6 of both words are known too.
 
 bit_6 : (w : ℕ) → (bit_and w 0x40 ≡ 0) ⊎ (bit_and w 0x40 ≡ 0x40)
 bit_6 w = grind (arith, and_pow w 6, bit_at-lt w 6)
 
--- the rows are told apart where bits 6 of both words are known too
+-- the same rows are left behind these upper nine bits, with bits 6 of both words
+abbrev SameLeft : ℕ → List (Row Entry) → ℕ → ℕ → Type 0
+SameLeft v left p q =
+    rest ((0xF800, 0x1800) ∷ (0x40, p) ∷ []) ((0xFF80, v * 0x80) ∷ (0x40, q) ∷ []) long_rows
+    ≡ rest ((0xF800, 0x1800) ∷ (0x40, p) ∷ []) ((0xFF80, v * 0x80) ∷ (0x40, q) ∷ []) left
 
-long-lookup_bits : (v : ℕ) (rows : List (Row Entry)) (w0 w1 : ℕ) → ((p q : ℕ) → (p ≡ 0) ⊎ (p ≡ 0x40) → (q ≡ 0) ⊎ (q ≡ 0x40) → rest ((0xF800, 0x1800) ∷ (0x40, p) ∷ []) ((0xFF80, v * 0x80) ∷ (0x40, q) ∷ []) (reserved_extended_rows ++ extended_rows) ≡ rest ((0xF800, 0x1800) ∷ (0x40, p) ∷ []) ((0xFF80, v * 0x80) ∷ (0x40, q) ∷ []) rows) → w0 < 0x10000 → w0 / 0x800 ≡ 3 → w1 < 0x10000 → w1 / 0x80 ≡ v → lookup no_row (reserved_extended_rows ++ extended_rows) w0 w1 ≡ lookup no_row rows w0 w1
-long-lookup_bits v rows w0 w1 s h e i f = agree no_row ((0xF800, 0x1800) ∷ (0x40, bit_and w0 0x40) ∷ []) ((0xFF80, v * 0x80) ∷ (0x40, bit_and w1 0x40) ∷ []) (reserved_extended_rows ++ extended_rows) rows w0 w1 (s (bit_and w0 0x40) (bit_and w1 0x40) (bit_6 w0) (bit_6 w1)) (upper 11 w0 3 (lit≤ tt) h e, (refl, tt)) (upper 7 w1 v (lit≤ tt) i f, (refl, tt))
+same_left : (v : ℕ) (left : List (Row Entry)) (p q : ℕ) → (p ≡ 0) ⊎ (p ≡ 0x40) → (q ≡ 0) ⊎ (q ≡ 0x40) →
+    SameLeft v left 0 0 → SameLeft v left 0 0x40 → SameLeft v left 0x40 0 → SameLeft v left 0x40 0x40 →
+    SameLeft v left p q
+same_left v left p q (inl e) (inl f) a b c d = rw (e, f) a
+same_left v left p q (inl e) (inr f) a b c d = rw (e, f) b
+same_left v left p q (inr e) (inl f) a b c d = rw (e, f) c
+same_left v left p q (inr e) (inr f) a b c d = rw (e, f) d
 
-left_20 : (p q : ℕ) → (p ≡ 0) ⊎ (p ≡ 0x40) → (q ≡ 0) ⊎ (q ≡ 0x40) → rest ((0xF800, 0x1800) ∷ (0x40, p) ∷ []) ((0xFF80, 0x20 * 0x80) ∷ (0x40, q) ∷ []) (reserved_extended_rows ++ extended_rows) ≡ rest ((0xF800, 0x1800) ∷ (0x40, p) ∷ []) ((0xFF80, 0x20 * 0x80) ∷ (0x40, q) ∷ []) (long_rotate_rows (LongOne Rrc))
-unfolding reserved_extended_rows reserved_before_rows reserved_width_rows reserved_operand_rows extended_rows
-left_20 p q (inl a) (inl b) = rw (a, b) refl
-left_20 p q (inl a) (inr b) = rw (a, b) refl
-left_20 p q (inr a) (inl b) = rw (a, b) refl
-left_20 p q (inr a) (inr b) = rw (a, b) refl
+module _ (w0 w1 : ℕ) (fits : w0 < 0x10000) (is_extension : w0 / 0x800 ≡ 3) (next_fits : w1 < 0x10000) where
+  long-lookup_bits : (v : ℕ) (left : List (Row Entry)) →
+      SameLeft v left 0 0 → SameLeft v left 0 0x40 → SameLeft v left 0x40 0 → SameLeft v left 0x40 0x40 →
+      w1 / 0x80 ≡ v → lookup no_row long_rows w0 w1 ≡ lookup no_row left w0 w1
+  long-lookup_bits v left a b c d e =
+      agree no_row
+        ((0xF800, 0x1800) ∷ (0x40, bit_and w0 0x40) ∷ [])
+        ((0xFF80, v * 0x80) ∷ (0x40, bit_and w1 0x40) ∷ [])
+        long_rows left w0 w1
+        (same_left v left (bit_and w0 0x40) (bit_and w1 0x40) (bit_6 w0) (bit_6 w1) a b c d)
+        (extension_known w0 w1 fits is_extension next_fits, (refl, tt))
+        ((upper 7 w1 v (lit≤ tt) next_fits e).0, (refl, tt))
 
-pub long_20 : (w0 w1 : ℕ) → w0 < 0x10000 → w0 / 0x800 ≡ 3 → w1 < 0x10000 → w1 / 0x80 ≡ 0x20 → lookup no_row (reserved_extended_rows ++ extended_rows) w0 w1 ≡ lookup no_row (long_rotate_rows (LongOne Rrc)) w0 w1
-long_20 w0 w1 h e i f = long-lookup_bits 0x20 (long_rotate_rows (LongOne Rrc)) w0 w1 left_20 h e i f
+  pub long_20 : w1 / 0x80 ≡ 0x20 →
+      lookup no_row long_rows w0 w1 ≡ lookup no_row (long_rotate_rows (LongOne Rrc)) w0 w1
+  unfolding reserved_extended_rows reserved_before_rows reserved_width_rows reserved_operand_rows
+      extended_rows
+  long_20 e = long-lookup_bits 0x20 (long_rotate_rows (LongOne Rrc)) refl refl refl refl e
 
-left_21 : (p q : ℕ) → (p ≡ 0) ⊎ (p ≡ 0x40) → (q ≡ 0) ⊎ (q ≡ 0x40) → rest ((0xF800, 0x1800) ∷ (0x40, p) ∷ []) ((0xFF80, 0x21 * 0x80) ∷ (0x40, q) ∷ []) (reserved_extended_rows ++ extended_rows) ≡ rest ((0xF800, 0x1800) ∷ (0x40, p) ∷ []) ((0xFF80, 0x21 * 0x80) ∷ (0x40, q) ∷ []) (long_word_rows (LongOne Swpb))
-unfolding reserved_extended_rows reserved_before_rows reserved_width_rows reserved_operand_rows extended_rows
-left_21 p q (inl a) (inl b) = rw (a, b) refl
-left_21 p q (inl a) (inr b) = rw (a, b) refl
-left_21 p q (inr a) (inl b) = rw (a, b) refl
-left_21 p q (inr a) (inr b) = rw (a, b) refl
+  pub long_21 : w1 / 0x80 ≡ 0x21 →
+      lookup no_row long_rows w0 w1 ≡ lookup no_row (long_word_rows (LongOne Swpb)) w0 w1
+  unfolding reserved_extended_rows reserved_before_rows reserved_width_rows reserved_operand_rows
+      extended_rows
+  long_21 e = long-lookup_bits 0x21 (long_word_rows (LongOne Swpb)) refl refl refl refl e
 
-pub long_21 : (w0 w1 : ℕ) → w0 < 0x10000 → w0 / 0x800 ≡ 3 → w1 < 0x10000 → w1 / 0x80 ≡ 0x21 → lookup no_row (reserved_extended_rows ++ extended_rows) w0 w1 ≡ lookup no_row (long_word_rows (LongOne Swpb)) w0 w1
-long_21 w0 w1 h e i f = long-lookup_bits 0x21 (long_word_rows (LongOne Swpb)) w0 w1 left_21 h e i f
+  pub long_22 : w1 / 0x80 ≡ 0x22 →
+      lookup no_row long_rows w0 w1 ≡ lookup no_row (long_rotate_rows (LongOne Rra)) w0 w1
+  unfolding reserved_extended_rows reserved_before_rows reserved_width_rows reserved_operand_rows
+      extended_rows
+  long_22 e = long-lookup_bits 0x22 (long_rotate_rows (LongOne Rra)) refl refl refl refl e
 
-left_22 : (p q : ℕ) → (p ≡ 0) ⊎ (p ≡ 0x40) → (q ≡ 0) ⊎ (q ≡ 0x40) → rest ((0xF800, 0x1800) ∷ (0x40, p) ∷ []) ((0xFF80, 0x22 * 0x80) ∷ (0x40, q) ∷ []) (reserved_extended_rows ++ extended_rows) ≡ rest ((0xF800, 0x1800) ∷ (0x40, p) ∷ []) ((0xFF80, 0x22 * 0x80) ∷ (0x40, q) ∷ []) (long_rotate_rows (LongOne Rra))
-unfolding reserved_extended_rows reserved_before_rows reserved_width_rows reserved_operand_rows extended_rows
-left_22 p q (inl a) (inl b) = rw (a, b) refl
-left_22 p q (inl a) (inr b) = rw (a, b) refl
-left_22 p q (inr a) (inl b) = rw (a, b) refl
-left_22 p q (inr a) (inr b) = rw (a, b) refl
+  pub long_23 : w1 / 0x80 ≡ 0x23 →
+      lookup no_row long_rows w0 w1 ≡ lookup no_row (long_word_rows (LongOne Sxt)) w0 w1
+  unfolding reserved_extended_rows reserved_before_rows reserved_width_rows reserved_operand_rows
+      extended_rows
+  long_23 e = long-lookup_bits 0x23 (long_word_rows (LongOne Sxt)) refl refl refl refl e
 
-pub long_22 : (w0 w1 : ℕ) → w0 < 0x10000 → w0 / 0x800 ≡ 3 → w1 < 0x10000 → w1 / 0x80 ≡ 0x22 → lookup no_row (reserved_extended_rows ++ extended_rows) w0 w1 ≡ lookup no_row (long_rotate_rows (LongOne Rra)) w0 w1
-long_22 w0 w1 h e i f = long-lookup_bits 0x22 (long_rotate_rows (LongOne Rra)) w0 w1 left_22 h e i f
+  pub long_24 : w1 / 0x80 ≡ 0x24 →
+      lookup no_row long_rows w0 w1 ≡ lookup no_row (long_width_rows (LongOne Push)) w0 w1
+  unfolding reserved_extended_rows reserved_before_rows reserved_width_rows reserved_operand_rows
+      extended_rows
+  long_24 e = long-lookup_bits 0x24 (long_width_rows (LongOne Push)) refl refl refl refl e
 
-left_23 : (p q : ℕ) → (p ≡ 0) ⊎ (p ≡ 0x40) → (q ≡ 0) ⊎ (q ≡ 0x40) → rest ((0xF800, 0x1800) ∷ (0x40, p) ∷ []) ((0xFF80, 0x23 * 0x80) ∷ (0x40, q) ∷ []) (reserved_extended_rows ++ extended_rows) ≡ rest ((0xF800, 0x1800) ∷ (0x40, p) ∷ []) ((0xFF80, 0x23 * 0x80) ∷ (0x40, q) ∷ []) (long_word_rows (LongOne Sxt))
-unfolding reserved_extended_rows reserved_before_rows reserved_width_rows reserved_operand_rows extended_rows
-left_23 p q (inl a) (inl b) = rw (a, b) refl
-left_23 p q (inl a) (inr b) = rw (a, b) refl
-left_23 p q (inr a) (inl b) = rw (a, b) refl
-left_23 p q (inr a) (inr b) = rw (a, b) refl
+-- ---- as contracts take them
 
-pub long_23 : (w0 w1 : ℕ) → w0 < 0x10000 → w0 / 0x800 ≡ 3 → w1 < 0x10000 → w1 / 0x80 ≡ 0x23 → lookup no_row (reserved_extended_rows ++ extended_rows) w0 w1 ≡ lookup no_row (long_word_rows (LongOne Sxt)) w0 w1
-long_23 w0 w1 h e i f = long-lookup_bits 0x23 (long_word_rows (LongOne Sxt)) w0 w1 left_23 h e i f
-
-left_24 : (p q : ℕ) → (p ≡ 0) ⊎ (p ≡ 0x40) → (q ≡ 0) ⊎ (q ≡ 0x40) → rest ((0xF800, 0x1800) ∷ (0x40, p) ∷ []) ((0xFF80, 0x24 * 0x80) ∷ (0x40, q) ∷ []) (reserved_extended_rows ++ extended_rows) ≡ rest ((0xF800, 0x1800) ∷ (0x40, p) ∷ []) ((0xFF80, 0x24 * 0x80) ∷ (0x40, q) ∷ []) (long_width_rows (LongOne Push))
-unfolding reserved_extended_rows reserved_before_rows reserved_width_rows reserved_operand_rows extended_rows
-left_24 p q (inl a) (inl b) = rw (a, b) refl
-left_24 p q (inl a) (inr b) = rw (a, b) refl
-left_24 p q (inr a) (inl b) = rw (a, b) refl
-left_24 p q (inr a) (inr b) = rw (a, b) refl
-
-pub long_24 : (w0 w1 : ℕ) → w0 < 0x10000 → w0 / 0x800 ≡ 3 → w1 < 0x10000 → w1 / 0x80 ≡ 0x24 → lookup no_row (reserved_extended_rows ++ extended_rows) w0 w1 ≡ lookup no_row (long_width_rows (LongOne Push)) w0 w1
-long_24 w0 w1 h e i f = long-lookup_bits 0x24 (long_width_rows (LongOne Push)) w0 w1 left_24 h e i f
-
-pub long_25 : (w0 w1 : ℕ) → w0 < 0x10000 → w0 / 0x800 ≡ 3 → w1 < 0x10000 → w1 / 0x80 ≡ 0x25 → lookup no_row (reserved_extended_rows ++ extended_rows) w0 w1 ≡ record { form = Reserved; words = 2 }
-unfolding reserved_extended_rows reserved_before_rows reserved_width_rows reserved_operand_rows extended_rows
-long_25 w0 w1 h e i f = long-says 7 0x25 (long_row 0 0 0 0 Reserved) w0 w1 (lit≤ tt) refl refl h e i f
-
-pub long_13 : (w0 w1 : ℕ) → w0 < 0x10000 → w0 / 0x800 ≡ 3 → w1 < 0x10000 → w1 / 0x100 ≡ 0x13 → lookup no_row (reserved_extended_rows ++ extended_rows) w0 w1 ≡ record { form = Reserved; words = 2 }
-unfolding reserved_extended_rows reserved_before_rows reserved_width_rows reserved_operand_rows extended_rows
-long_13 w0 w1 h e i f = long-says 8 0x13 (long_row 0 0 0 0 Reserved) w0 w1 (lit≤ tt) refl refl h e i f
-
-pub long_14 : (w0 w1 : ℕ) → w0 < 0x10000 → w0 / 0x800 ≡ 3 → w1 < 0x10000 → w1 / 0x400 ≡ 0x5 → lookup no_row (reserved_extended_rows ++ extended_rows) w0 w1 ≡ record { form = Reserved; words = 2 }
-unfolding reserved_extended_rows reserved_before_rows reserved_width_rows reserved_operand_rows extended_rows
-long_14 w0 w1 h e i f = long-says 10 0x5 (long_row 0 0 0 0 Reserved) w0 w1 (lit≤ tt) refl refl h e i f
-
-pub long_18 : (w0 w1 : ℕ) → w0 < 0x10000 → w0 / 0x800 ≡ 3 → w1 < 0x10000 → w1 / 0x800 ≡ 0x3 → lookup no_row (reserved_extended_rows ++ extended_rows) w0 w1 ≡ record { form = Reserved; words = 2 }
-unfolding reserved_extended_rows reserved_before_rows reserved_width_rows reserved_operand_rows extended_rows
-long_18 w0 w1 h e i f = long-says 11 0x3 (long_row 0 0 0 0 Reserved) w0 w1 (lit≤ tt) refl refl h e i f
-
-pub ruleset long_one_operand_prefixes = (long_20, long_21, long_22, long_23, long_24, long_25, long_13, long_14, long_18)
+pub ruleset first_nibbles = (at_0, at_2, at_3, at_4, at_5, at_6, at_7, at_8, at_9, at_A, at_B, at_C,
+    at_D, at_E, at_F)
+pub ruleset second_nibbles = (at_10, at_11, at_12, at_13, at_14, at_15, at_16, at_17, at_extension)
+pub ruleset one_operand_prefixes = (one_40, one_41, one_42, one_44, one_45, one_46, one_43, one_47,
+    one_48, one_49, one_4A, one_4B)
+pub ruleset long_nibbles = (long_0, long_2, long_3, long_4, long_5, long_6, long_7, long_8, long_9,
+    long_A, long_B, long_C, long_D, long_E, long_F)
+pub ruleset long_one_operand_prefixes = (long_25, long_13, long_14, long_18, long_20, long_21,
+    long_22, long_23, long_24)

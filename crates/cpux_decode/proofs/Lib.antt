@@ -1,8 +1,9 @@
 mod Narrow
-mod Sole
+mod Splits
 mod OneRow
 mod Groups
 mod Lookups
 mod Entries
 mod Fronts
 mod Reserved
+mod ReasonsLemmas

@@ -1,5 +1,5 @@
 -- What the table leaves to be told where the operation is known.
-use Rattle.std.specs.Prelude.{ℕ, List, [], ◌∷◌}
+use Rattle.std.specs.Prelude.{List, [], ◌∷◌}
 use Rattle.cpux_decode.specs.declared.forms.Form.{Form}
 use Rattle.cpux_decode.specs.declared.forms.Form.TheVariants.{Reserved}
 use Rattle.cpux_decode.specs.declared.forms.Entry.{Entry}
@@ -8,11 +8,21 @@ use Rattle.cpux_decode.specs.Table.{row, long_row}
 
 -- one operand: reserved on R3, on R2 with As 10 or 11 and on an immediate, and else this form
 abbrev pub operand_rows : Form → List (Row Entry)
-operand_rows form = row 0x0F 0x03 Reserved 1 ∷ row 0x2F 0x22 Reserved 1 ∷ row 0x3F 0x30 Reserved 1 ∷ row 0 0 form 1 ∷ []
+operand_rows form =
+    row 0x0F 0x03 Reserved 1
+    ∷ row 0x2F 0x22 Reserved 1
+    ∷ row 0x3F 0x30 Reserved 1
+    ∷ row 0 0 form 1
+    ∷ []
 
 -- the same of the word behind an extension word
 abbrev pub long_operand_rows : Form → List (Row Entry)
-long_operand_rows form = long_row 0 0 0x0F 0x03 Reserved ∷ long_row 0 0 0x2F 0x22 Reserved ∷ long_row 0 0 0x3F 0x30 Reserved ∷ long_row 0 0 0 0 form ∷ []
+long_operand_rows form =
+    long_row 0 0 0x0F 0x03 Reserved
+    ∷ long_row 0 0 0x2F 0x22 Reserved
+    ∷ long_row 0 0 0x3F 0x30 Reserved
+    ∷ long_row 0 0 0 0 form
+    ∷ []
 
 -- behind an extension word: reserved with A/L 0 and B/W 0, and else this form
 abbrev pub long_width_rows : Form → List (Row Entry)
@@ -24,4 +34,7 @@ long_rotate_rows form = long_row 0x40 0 0x40 0 Reserved ∷ long_operand_rows fo
 
 -- SWPB and SXT behind an extension word: reserved but with A/L 1 and B/W 0
 abbrev pub long_word_rows : Form → List (Row Entry)
-long_word_rows form = long_row 0x40 0 0 0 Reserved ∷ long_row 0 0 0x40 0x40 Reserved ∷ long_operand_rows form
+long_word_rows form =
+    long_row 0x40 0 0 0 Reserved
+    ∷ long_row 0 0 0x40 0x40 Reserved
+    ∷ long_operand_rows form

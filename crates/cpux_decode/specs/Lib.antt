@@ -4,3 +4,4 @@ pub mod Branches
 pub mod Operands
 pub mod Instructions
 pub mod Ranges
+pub mod Reasons

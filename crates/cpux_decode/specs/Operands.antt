@@ -1,4 +1,4 @@
--- The fields of an instruction word and the operands that they name (SLAU367, chapter CPUX, addressing modes).
+-- The fields of an instruction word and the operands that they name (SLAU367, chapter CPUX).
 use Rattle.std.specs.Prelude.{ℕ, ◌+◌, ◌-◌, ◌*◌, ◌/◌, ◌%◌, ◌^◌, Bool, true, false, nat_lt, ◌==◌, if◌then◌else◌}
 use Rattle.chip_words.specs.declared.sizes.Size.{Size}
 use Rattle.chip_words.specs.declared.sizes.Size.TheVariants.{Byte, Word, Addr}
@@ -48,7 +48,8 @@ increased_place high r x =
     else if r == 3 then Const 0xFFFFF
     else AtPlus r
 
--- a source by As and its register. x is the word that may belong to it; high has its bits 19:16, from an extension word.
+-- a source by As and its register. x is the word that may belong to it; high has its bits 19:16, from
+-- an extension word.
 unfoldable pub source_place : Bool → ℕ → ℕ → ℕ → ℕ → Place
 source_place long high mode r x =
     if mode == 0 then register_place r
@@ -58,12 +59,18 @@ source_place long high mode r x =
 
 -- how many words belong to a source: one in indexed and absolute mode and to an immediate
 unfoldable pub source_words : ℕ → ℕ → ℕ
-source_words mode r = if mode == 1 then (if r == 3 then 0 else 1) else if mode == 3 then (if r == 0 then 1 else 0) else 0
+source_words mode r =
+    if mode == 1 then (if r == 3 then 0 else 1)
+    else if mode == 3 then (if r == 0 then 1 else 0)
+    else 0
 
--- a destination by Ad and its register: Ad 0 a register, Ad 1 indexed, and absolute on R2. An Ad of 1 has one word.
+-- a destination by Ad and its register: Ad 0 a register, Ad 1 indexed, and absolute on R2. One word
+-- belongs to Ad 1.
 unfoldable pub destination_place : Bool → ℕ → ℕ → ℕ → ℕ → Place
 destination_place long high mode r x =
-    if mode == 0 then Reg r else if r == 2 then Absolute (wide high x) else indexed long high r x
+    if mode == 0 then Reg r
+    else if r == 2 then Absolute (wide high x)
+    else indexed long high r x
 
 -- the width by B/W of the instruction word
 abbrev pub size_of : ℕ → Size

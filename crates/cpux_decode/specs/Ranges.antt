@@ -1,5 +1,5 @@
 -- What the parts of a decoded instruction can be.
-use Rattle.std.specs.Prelude.{ℕ, ℤ, pos, negsuc, ◌<◌, ◌≤◌}
+use Rattle.std.specs.Prelude.{ℤ, pos, negsuc, ◌<◌, ◌≤◌}
 use Rattle.cpux_decode.specs.declared.places.Place.{Place}
 use Rattle.cpux_decode.specs.declared.places.Place.TheVariants.{Reg, Const, Near, Far, Absolute, At, AtPlus, Imm}
 use Rattle.cpux_decode.specs.declared.instructions.Count.{Count}

@@ -1,8 +1,8 @@
 -- Rows of masks and values over a pair of words, and the rows that a pair meets.
 use Rattle.std.specs.Prelude.{ℕ, Bool, true, false, List, [], ◌∷◌, bit_and, ◌==◌, ◌&&◌, if◌then◌else◌}
 
--- the words that are `value` under `mask`, each followed by one that is `next_value` under `next_mask`, and what the
--- row says of them
+-- a row of the words that are `value` under `mask`, and where the next word is `next_value` under
+-- `next_mask`, with what it says of them
 pub record Row (A : Type 0) : Type 0 where
   pub mask : ℕ
   pub value : ℕ

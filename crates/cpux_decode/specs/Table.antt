@@ -10,13 +10,26 @@ use Rattle.cpux_decode.specs.declared.operations.Op2.TheVariants.{Mov, Add, Addc
 use Rattle.cpux_decode.specs.declared.operations.OpA.TheVariants as address_op
 use Rattle.cpux_decode.specs.Rows.{Row, meets, rows_met, or_else, first_says}
 
--- a row of the first word: mask, value, form, and how many words the form has without those of addressing modes
+-- a row of the first word: its mask and value, the form, and how many words the form has besides those
+-- of addressing modes
 abbrev pub row : ℕ → ℕ → Form → ℕ → Row Entry
-row mask value form words = record { mask = mask; value = value; next_mask = 0; next_value = 0; says = record { form = form; words = words } }
+row mask value form words = record {
+  mask = mask;
+  value = value;
+  next_mask = 0;
+  next_value = 0;
+  says = record { form = form; words = words }
+}
 
 -- a row of an extension word, mask and value, and of the instruction word behind it, mask and value
 abbrev pub long_row : ℕ → ℕ → ℕ → ℕ → Form → Row Entry
-long_row mask value next_mask next_value form = record { mask = mask; value = value; next_mask = next_mask; next_value = next_value; says = record { form = form; words = 2 } }
+long_row mask value next_mask next_value form = record {
+  mask = mask;
+  value = value;
+  next_mask = next_mask;
+  next_value = next_value;
+  says = record { form = form; words = 2 }
+}
 
 -- address instructions, by bits 7:4, and the shifts of several places
 unfoldable pub address_rows : List (Row Entry)
@@ -117,9 +130,9 @@ two_operand_rows =
     ∷ row 0xF000 0xF000 (Two And) 1
     ∷ []
 
--- reserved words with one operand. First SWPB, SXT and CALL with B/W (bit 6) set. Then three rows for each of RRC, RRA,
--- SWPB and SXT: on R3, on R2 with As (bits 5:4) 10 or 11, and on an immediate; SWPB and SXT with B/W clear, since the
--- first rows have the others.
+-- reserved words with one operand. First SWPB, SXT and CALL with B/W (bit 6) set. Then three rows for
+-- each of RRC, RRA, SWPB and SXT: on R3, on R2 with As (bits 5:4) 10 or 11, and on an immediate. Those
+-- of SWPB and SXT have B/W clear, since the first rows have the others.
 unfoldable pub reserved_one_operand_rows : List (Row Entry)
 reserved_one_operand_rows =
     row 0xFFC0 0x10C0 Reserved 1
@@ -152,8 +165,8 @@ reserved_call_rows =
     ∷ row 0xFFC0 0x13C0 Reserved 1
     ∷ []
 
--- an extension word before a word that takes none: an address instruction, CALL, RETI or CALLA, PUSHM or POPM, another
--- extension word, a jump
+-- an extension word before a word that takes none: an address instruction, CALL, RETI or CALLA, PUSHM or
+-- POPM, another extension word, a jump
 unfoldable pub reserved_before_rows : List (Row Entry)
 reserved_before_rows =
     long_row 0xF800 0x1800 0xF000 0x0000 Reserved
@@ -164,8 +177,9 @@ reserved_before_rows =
     ∷ long_row 0xF800 0x1800 0xE000 0x2000 Reserved
     ∷ []
 
--- an extension word with a width that is none. A/L (bit 6 of the extension word) and B/W (bit 6 of the instruction word)
--- both clear, before RRC, RRA, PUSH and two operands. Before SWPB and SXT each pair but A/L set and B/W clear.
+-- an extension word without a width. Before RRC, RRA, PUSH and two operands A/L (bit 6 of the extension
+-- word) and B/W (bit 6 of the instruction word) are both clear. Before SWPB and SXT there is one width, with
+-- A/L set and B/W clear.
 unfoldable pub reserved_width_rows : List (Row Entry)
 reserved_width_rows =
     long_row 0xF840 0x1800 0xFFC0 0x1000 Reserved
@@ -189,9 +203,9 @@ reserved_width_rows =
     ∷ long_row 0xF840 0x1840 0xFFC0 0x11C0 Reserved
     ∷ []
 
--- an extension word before a word that is reserved alone: on R3, on R2 with As 10 or 11, and on an immediate. RRC and
--- RRA with A/L set, and with A/L clear and B/W set; SWPB and SXT with A/L set and B/W clear. The rows of widths have the
--- others.
+-- an extension word before a word that is reserved alone: on R3, on R2 with As 10 or 11, and on an
+-- immediate. First RRC and RRA, each with A/L set, and then with A/L clear and B/W set; then SWPB and SXT
+-- with A/L set and B/W clear. The rows without a width have the others.
 unfoldable pub reserved_operand_rows : List (Row Entry)
 reserved_operand_rows =
     long_row 0xF840 0x1840 0xFF8F 0x1003 Reserved
@@ -221,7 +235,14 @@ unfoldable pub reserved_rows : List (Row Entry)
 reserved_rows = reserved_one_operand_rows ++ reserved_call_rows ++ reserved_extended_rows
 
 unfoldable pub ordinary_rows : List (Row Entry)
-ordinary_rows = address_rows ++ one_operand_rows ++ call_rows ++ many_rows ++ extended_rows ++ jump_rows ++ two_operand_rows
+ordinary_rows =
+    address_rows
+    ++ one_operand_rows
+    ++ call_rows
+    ++ many_rows
+    ++ extended_rows
+    ++ jump_rows
+    ++ two_operand_rows
 
 -- the rows of the table that a pair of words meets: a reserved row stands before the others
 abbrev pub table_rows : ℕ → ℕ → List (Row Entry)

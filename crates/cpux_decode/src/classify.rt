@@ -1,7 +1,7 @@
-ghost use Rattle.std.specs.Prelude.{◌≡◌, ℕ, ◌+◌, ◌*◌, ◌/◌, ◌≤◌, ◌++◌};
+ghost use Rattle.std.specs.Prelude.{◌≡◌, ℕ, ◌+◌, ◌/◌, ◌≤◌, ◌++◌};
 ghost use Rattle.cpux_decode.specs.Branches.{operand_rows, long_operand_rows, long_width_rows, long_rotate_rows, long_word_rows};
 ghost use Rattle.cpux_decode.specs.Rows.{lookup};
-ghost use Rattle.cpux_decode.specs.Table.{address_rows, one_operand_rows, call_rows, many_rows, extended_rows, reserved_one_operand_rows, reserved_call_rows, reserved_extended_rows, entry, no_row};
+ghost use Rattle.cpux_decode.specs.Table.{address_rows, one_operand_rows, call_rows, extended_rows, reserved_one_operand_rows, reserved_call_rows, reserved_extended_rows, entry, no_row};
 
 use crate::forms::{Entry, Form};
 use crate::operations::{Op1, Op2, OpA};

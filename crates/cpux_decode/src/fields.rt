@@ -1,4 +1,4 @@
-ghost use Rattle.std.specs.Prelude.{◌≡◌, ◌≤◌};
+ghost use Rattle.std.specs.Prelude.{◌≡◌};
 ghost use Rattle.cpux_decode.specs.Instructions.{instruction_of, jump as jump_of, long_one_operand as long_one_operand_of, long_two_operands as long_two_operands_of, many_size as many_size_of, one_operand as one_operand_of, shift_many as shift_many_of, shift_operation as shift_operation_of, two_operands as two_operands_of};
 ghost use Rattle.cpux_decode.specs.Ranges.{IsInRange};
 

@@ -20,7 +20,7 @@ use classify::classify;
 use fields::instruction;
 pub use forms::{Entry, Form};
 pub use instructions::{Count, Decoded, Rep};
-pub use laws::each_pair_meets_one_row;
+pub use laws::{each_pair_meets_one_row, reserved_for_reasons};
 use operands::{destination_mode, field_3_0, field_11_8, source_mode, source_words};
 pub use operations::{Op1, Op2, OpA, OpS};
 pub use places::Place;
@@ -32,8 +32,8 @@ pub fn is_extension(word: u16) -> bool
     word >> 11 == 3
 }
 
-/// How many words belong to the instruction that begins with these two. Where the first is no extension word, the second
-/// may be any.
+/// How many words belong to the instruction that begins with these two. Where the first is no extension
+/// word, the second may be any.
 #[tactic(auto, using(crate::proofs::Fronts::lengths), unfolding(crate::specs::Instructions::length_of))]
 pub fn length(w0: u16, w1: u16) -> u32
     ensures count { result ≡ length_of w0 w1 }
@@ -79,3 +79,6 @@ pub fn decode(words: [u16; 4]) -> Decoded
 {
     instruction(classify(words[0], words[1]).form, words)
 }
+
+#[cfg(test)]
+mod tests;

@@ -77,7 +77,8 @@ pub fn sign_extended(word: u16) -> u32
     }
 }
 
-/// A source by its addressing mode and register. `x` is the word that may belong to it, and `high` has its bits 19:16.
+/// A source by its addressing mode and register. `x` is the word that may belong to it, and `high` has its
+/// bits 19:16.
 #[tactic(auto, unfolding(crate::specs::Operands::source_place))]
 pub fn source(long: bool, high: u8, mode: u8, r: u8, x: u16) -> Place
     requires high { high < 16 }
@@ -116,8 +117,8 @@ pub fn source_words(mode: u8, r: u8) -> u8
     }
 }
 
-/// A destination by its addressing mode and register. `x` is the word that may belong to it, and `high` has its bits
-/// 19:16.
+/// A destination by its addressing mode and register. `x` is the word that may belong to it, and `high` has
+/// its bits 19:16.
 #[tactic(auto, unfolding(crate::specs::Operands::destination_place))]
 pub fn destination(long: bool, high: u8, mode: u8, r: u8, x: u16) -> Place
     requires high { high < 16 }

@@ -1,7 +1,7 @@
 /// A place that an instruction reads or writes.
 ///
-/// Registers are numbered 0 to 15. An index belongs to the word that holds it: where the base register is R0, the
-/// address is counted from that word's own address.
+/// Registers are numbered 0 to 15. Where the base of an index is R0, the address is counted from that of the
+/// word that holds the index.
 #[derive(Clone, Copy, Debug, PartialEq, Eq)]
 pub enum Place {
     /// The register itself.
