@@ -1,7 +1,7 @@
 -- One access to the bus: what it answers, and the chip behind it.
 use Rattle.std.specs.Prelude.{ℕ, ◌==◌, ◌&&◌, ◌||◌, not, nat_lt, Bool, true, false, if◌then◌else◌, List, [], ◌∷◌, ◌++◌}
 use Rattle.chip_words.specs.declared.sizes.Size.{Size}
-use Rattle.chip_words.specs.declared.sizes.Size.TheVariants.{Byte, Word}
+use Rattle.chip_words.specs.declared.sizes.Size.TheVariants.{Byte}
 use Rattle.chip_words.specs.declared.accesses.Kind.{Kind}
 use Rattle.chip_words.specs.declared.accesses.Kind.TheVariants.{Fetch, Read, Write}
 use Rattle.chip_words.specs.declared.accesses.Agent.{Agent}
@@ -58,9 +58,9 @@ is_beyond_boot who kind at = false
 -- what an access at an aligned address does
 abbrev pub made : Agent → Kind → ℕ → Size → ℕ → BusPart → Outcome
 made who kind at size value chip =
-  if is_low_start who kind at then record { answer = 0; chip = record chip { stop = true } }
-  else if is_beyond_boot who kind at then record { answer = blank size; chip = chip }
-  else granted (region_at at) kind at size value chip
+    if is_low_start who kind at then record { answer = 0; chip = record chip { stop = true } }
+    else if is_beyond_boot who kind at then record { answer = blank size; chip = chip }
+    else granted (region_at at) kind at size value chip
 
 -- an access by another agent than the debugger joins the step's list
 abbrev pub entry_of : Agent → Kind → ℕ → Size → ℕ → List Access

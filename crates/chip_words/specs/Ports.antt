@@ -17,16 +17,16 @@ ports_at_reset ports = record ports { out = 0; direction = 0 }
 -- the bits of OUT where DIR is 1 and the pins aren't locked, else the external levels
 abbrev pub inputs : Ports → Bool → ℕ
 inputs ports locked =
-  if locked then ports.levels
-  else bit_or (bit_and ports.out ports.direction) (bit_and ports.levels (0xFFFF - ports.direction))
+    if locked then ports.levels
+    else bit_or (bit_and ports.out ports.direction) (bit_and ports.levels (0xFFFF - ports.direction))
 
 -- IN at 0200h, OUT at 0202h and DIR at 0204h
 abbrev pub ports_word : Ports → Bool → ℕ → ℕ
 ports_word ports locked at =
-  if at == 0x0200 then inputs ports locked
-  else if at == 0x0202 then ports.out
-  else if at == 0x0204 then ports.direction
-  else 0
+    if at == 0x0200 then inputs ports locked
+    else if at == 0x0202 then ports.out
+    else if at == 0x0204 then ports.direction
+    else 0
 
 -- IN is read only
 abbrev pub with_ports_word : Ports → ℕ → ℕ → Ports

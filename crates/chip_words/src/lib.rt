@@ -8,6 +8,8 @@ mod memory;
 mod regions;
 mod registers;
 mod sizes;
+#[cfg(test)]
+mod tests;
 
 pub use accesses::{Access, Agent, Kind};
 pub use buses::Bus;

@@ -9,7 +9,6 @@ use Rattle.cpux_decode.specs.declared.forms.Form.TheVariants.{Reserved, MoveAbso
 use Rattle.cpux_decode.specs.declared.forms.Entry.{Entry}
 use Rattle.cpux_decode.specs.Rows.{Row, meets, lookup}
 use Rattle.cpux_decode.specs.Table.{reserved_rows, ordinary_rows, table_rows, entry, is_reserved, no_row, address_rows, one_operand_rows, reserved_one_operand_rows, call_rows, reserved_call_rows, many_rows, extended_rows, reserved_extended_rows, reserved_before_rows, reserved_width_rows, reserved_operand_rows, jump_rows, two_operand_rows}
-
 use Rattle.cpux_decode.specs.Instructions.{is_extension}
 use Rattle.cpux_decode.proofs.Narrow.{rest, lookup-rest}
 use Rattle.cpux_decode.proofs.OneRow.{each_pair_meets_one_row, lookup-append, lookup-entry_of}
@@ -40,12 +39,12 @@ says_reserved entry = is_reserved_form entry.form
 
 reserved_say : list_all (λ (row : Row Entry). says_reserved row.says) reserved_rows ≡ true
 unfolding reserved_rows reserved_one_operand_rows reserved_call_rows reserved_extended_rows
-      reserved_before_rows reserved_width_rows reserved_operand_rows
+    reserved_before_rows reserved_width_rows reserved_operand_rows
 reserved_say = refl
 
 ordinary_say : list_all (λ (row : Row Entry). not (says_reserved row.says)) ordinary_rows ≡ true
 unfolding ordinary_rows address_rows one_operand_rows call_rows many_rows extended_rows jump_rows
-      two_operand_rows
+    two_operand_rows
 ordinary_say = refl
 
 -- an entry that is not reserved
@@ -65,14 +64,14 @@ says_reserved-by w0 w1 true h =
 says_reserved-by w0 w1 false h =
     ap says_reserved (lookup-none (lookup other ordinary_rows w0 w1) reserved_rows w0 w1 h)
     ∙ not_true (says_reserved (lookup other ordinary_rows w0 w1))
-        (lookup-passes (λ (e : Entry). not (says_reserved e)) other ordinary_rows w0 w1 refl ordinary_say)
+    (lookup-passes (λ (e : Entry). not (says_reserved e)) other ordinary_rows w0 w1 refl ordinary_say)
 
 -- the form is reserved exactly where a reserved row is met
 pub reserved_form-entry : (w0 w1 : ℕ) → is_reserved_form (entry w0 w1).form ≡ is_reserved w0 w1
 unfolding is_reserved
 reserved_form-entry w0 w1 =
     ap says_reserved
-      (sym (lookup-entry_any other w0 w1) ∙ lookup-append other reserved_rows ordinary_rows w0 w1)
+    (sym (lookup-entry_any other w0 w1) ∙ lookup-append other reserved_rows ordinary_rows w0 w1)
     ∙ says_reserved-by w0 w1 (is_reserved w0 w1) refl
 
 -- ---- the words of an entry
@@ -110,8 +109,8 @@ record RowsPass : Type 0 where
 
 tested : RowsPass
 unfolding reserved_rows ordinary_rows reserved_one_operand_rows reserved_call_rows reserved_extended_rows
-      reserved_before_rows reserved_width_rows reserved_operand_rows address_rows one_operand_rows call_rows
-      many_rows extended_rows jump_rows two_operand_rows
+    reserved_before_rows reserved_width_rows reserved_operand_rows address_rows one_operand_rows call_rows
+    many_rows extended_rows jump_rows two_operand_rows
 tested = record { have_words = refl; alone = refl; short = refl; extended = refl }
 
 entry_has_words : (w0 w1 : ℕ) → has_words (entry w0 w1) ≡ true
@@ -144,9 +143,9 @@ entry-alone w0 w1 w2 h =
 pub long_form-alone : (w0 w1 : ℕ) → is_extension w0 ≡ false → is_long_form (entry w0 w1).form ≡ false
 long_form-alone w0 w1 h =
     not_true (is_long_form (entry w0 w1).form)
-      (ap (λ (e : Entry). not (is_long_form e.form)) (sym (lookup-entry_any no_row w0 w1))
-        ∙ lookup-passes_alone (λ (e : Entry). not (is_long_form e.form)) no_row
-            all_rows w0 w1 (no_extension w0 h) refl tested.short)
+    (ap (λ (e : Entry). not (is_long_form e.form)) (sym (lookup-entry_any no_row w0 w1))
+    ∙ lookup-passes_alone (λ (e : Entry). not (is_long_form e.form)) no_row
+    all_rows w0 w1 (no_extension w0 h) refl tested.short)
 
 -- an entry of two words
 abbrev two_reserved : Entry
@@ -155,11 +154,11 @@ two_reserved = record { form = Reserved; words = 2 }
 two_words_tested : (w0 w1 : ℕ) → is_extension w0 ≡ true → nat_le 2 (entry w0 w1).words ≡ true
 two_words_tested w0 w1 h =
     ap (λ (e : Entry). nat_le 2 e.words)
-        (sym (lookup-entry_any two_reserved w0 w1)
-          ∙ lookup-rest two_reserved extension []
-              all_rows w0 w1 (an_extension w0 h, tt) tt)
+    (sym (lookup-entry_any two_reserved w0 w1)
+    ∙ lookup-rest two_reserved extension []
+    all_rows w0 w1 (an_extension w0 h, tt) tt)
     ∙ lookup-passes (λ (e : Entry). nat_le 2 e.words) two_reserved
-        (rest extension [] all_rows) w0 w1 refl tested.extended
+    (rest extension [] all_rows) w0 w1 refl tested.extended
 
 pub extension_words : (w0 w1 : ℕ) → is_extension w0 ≡ true → 2 ≤ (entry w0 w1).words
 extension_words w0 w1 h = let t = two_words_tested w0 w1 h in grind (arith, nat_tests)

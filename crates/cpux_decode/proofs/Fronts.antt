@@ -39,16 +39,16 @@ unfolding one_operand
 one_same op a b s =
     let e = s 0 (omega arith) in
     let p =
-        source_same false 0 (bits (slice_index a 0) 5 4) (bits (slice_index a 0) 3 0) (slice_index a 1)
-          (slice_index b 1) (source_words (bits (slice_index a 0) 5 4) (bits (slice_index a 0) 3 0))
-          (omega arith) refl (λ k. s 1 (omega arith)) in
+    source_same false 0 (bits (slice_index a 0) 5 4) (bits (slice_index a 0) 3 0) (slice_index a 1)
+    (slice_index b 1) (source_words (bits (slice_index a 0) 5 4) (bits (slice_index a 0) 3 0))
+    (omega arith) refl (λ k. s 1 (omega arith)) in
     cc
 
 two_same : (op : Op2) (a b : List ℕ) →
     SameFront
-        (1 +
-            (source_words (bits (slice_index a 0) 5 4) (bits (slice_index a 0) 11 8) + bits
-                (slice_index a 0) 7 7)) a b →
+    (1 +
+    (source_words (bits (slice_index a 0) 5 4) (bits (slice_index a 0) 11 8) + bits
+    (slice_index a 0) 7 7)) a b →
     two_operands op a ≡ two_operands op b
 unfolding two_operands
 two_same op a b s =
@@ -56,12 +56,12 @@ two_same op a b s =
     let r = bits (slice_index a 0) 11 8 in
     let e = s 0 (omega arith) in
     let p =
-        source_same false 0 m r (slice_index a 1) (slice_index b 1) (source_words m r) (omega arith) refl
-          (λ k. s 1 (omega arith)) in
+    source_same false 0 m r (slice_index a 1) (slice_index b 1) (source_words m r) (omega arith) refl
+    (λ k. s 1 (omega arith)) in
     let d =
-        destination_same false 0 (bits (slice_index a 0) 7 7) (bits (slice_index a 0) 3 0)
-          (slice_index a (1 + source_words m r)) (slice_index b (1 + source_words m r))
-          (bits (slice_index a 0) 7 7) refl (λ k. s (1 + source_words m r) (omega arith)) in
+    destination_same false 0 (bits (slice_index a 0) 7 7) (bits (slice_index a 0) 3 0)
+    (slice_index a (1 + source_words m r)) (slice_index b (1 + source_words m r))
+    (bits (slice_index a 0) 7 7) refl (λ k. s (1 + source_words m r) (omega arith)) in
     cc
 
 long_one_same : (op : Op1) (a b : List ℕ) →
@@ -74,15 +74,15 @@ long_one_same op a b s =
     let e = s 0 (omega arith) in
     let f = s 1 (omega arith) in
     let p =
-        source_same true (bits (slice_index a 0) 3 0) m r (slice_index a 2) (slice_index b 2)
-          (source_words m r) (omega arith) refl (λ k. s 2 (omega arith)) in
+    source_same true (bits (slice_index a 0) 3 0) m r (slice_index a 2) (slice_index b 2)
+    (source_words m r) (omega arith) refl (λ k. s 2 (omega arith)) in
     cc
 
 long_two_same : (op : Op2) (a b : List ℕ) →
     SameFront
-        (2 +
-            (source_words (bits (slice_index a 1) 5 4) (bits (slice_index a 1) 11 8) + bits
-                (slice_index a 1) 7 7)) a b →
+    (2 +
+    (source_words (bits (slice_index a 1) 5 4) (bits (slice_index a 1) 11 8) + bits
+    (slice_index a 1) 7 7)) a b →
     long_two_operands op a ≡ long_two_operands op b
 unfolding long_two_operands
 long_two_same op a b s =
@@ -91,13 +91,13 @@ long_two_same op a b s =
     let e = s 0 (omega arith) in
     let f = s 1 (omega arith) in
     let p =
-        source_same true (bits (slice_index a 0) 10 7) m r (slice_index a 2) (slice_index b 2)
-          (source_words m r) (omega arith) refl (λ k. s 2 (omega arith)) in
+    source_same true (bits (slice_index a 0) 10 7) m r (slice_index a 2) (slice_index b 2)
+    (source_words m r) (omega arith) refl (λ k. s 2 (omega arith)) in
     let d =
-        destination_same true (bits (slice_index a 0) 3 0) (bits (slice_index a 1) 7 7)
-          (bits (slice_index a 1) 3 0) (slice_index a (2 + source_words m r))
-          (slice_index b (2 + source_words m r)) (bits (slice_index a 1) 7 7) refl
-          (λ k. s (2 + source_words m r) (omega arith)) in
+    destination_same true (bits (slice_index a 0) 3 0) (bits (slice_index a 1) 7 7)
+    (bits (slice_index a 1) 3 0) (slice_index a (2 + source_words m r))
+    (slice_index b (2 + source_words m r)) (bits (slice_index a 1) 7 7) refl
+    (λ k. s (2 + source_words m r) (omega arith)) in
     cc
 
 same_by_first : {A : Type 0} (f : ℕ → A) (n : ℕ) (a b : List ℕ) → 0 < n → SameFront n a b →
@@ -167,13 +167,13 @@ entry_same : (a b : List ℕ) (t : Bool) → is_extension (slice_index a 0) ≡ 
     entry (slice_index a 0) (slice_index a 1) ≡ entry (slice_index a 0) (slice_index b 1)
 entry_same a b true h s =
     ap (entry (slice_index a 0))
-      (s 1 (omega (arith, length_of-extension (slice_index a 0) (slice_index a 1) h)))
+    (s 1 (omega (arith, length_of-extension (slice_index a 0) (slice_index a 1) h)))
 entry_same a b false h s = entry-alone (slice_index a 0) (slice_index a 1) (slice_index b 1) h
 
 own_words : (a b : List ℕ) → SameFront (length_of (slice_index a 0) (slice_index a 1)) a b →
     SameFront
-        (field_words (entry (slice_index a 0) (slice_index a 1)).form + operand_words
-            (entry (slice_index a 0) (slice_index a 1)).form (slice_index a 0) (slice_index a 1)) a b
+    (field_words (entry (slice_index a 0) (slice_index a 1)).form + operand_words
+    (entry (slice_index a 0) (slice_index a 1)).form (slice_index a 0) (slice_index a 1)) a b
 unfolding length_of
 own_words a b s k h = s k (omega (arith, (entry_words (slice_index a 0) (slice_index a 1)).0))
 
@@ -199,7 +199,7 @@ unfolding length_of
 length_of-alone w0 w1 w2 h =
     ap (λ (e : Entry). e.words + operand_words e.form w0 w2) (entry-alone w0 w2 w1 h)
     ∙ ap (λ n. (entry w0 w1).words + n)
-        (operand_words-alone (entry w0 w1).form w0 w2 w1 (long_form-alone w0 w1 h))
+    (operand_words-alone (entry w0 w1).form w0 w2 w1 (long_form-alone w0 w1 h))
 
 -- ---- as contracts take them
 

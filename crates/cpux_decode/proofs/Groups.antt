@@ -47,7 +47,7 @@ module _ (w0 w1 : ℕ) (fits : w0 < 0x10000) where
       trivial left ≡ true → w0 / 2 ^ k ≡ v → entry w0 w1 ≡ left.says
   entry-says k v left a s t e =
       sym (lookup-entry w0 w1)
-        ∙ sure no_row (high k v) [] all_rows left w0 w1 s t (upper k w0 v a fits e) tt
+      ∙ sure no_row (high k v) [] all_rows left w0 w1 s t (upper k w0 v a fits e) tt
 
   -- ---- the first word by its upper four bits
 
@@ -277,14 +277,14 @@ module _ (w0 w1 : ℕ) (fits : w0 < 0x10000) (is_extension : w0 / 0x800 ≡ 3) (
       lookup no_row long_rows w0 w1 ≡ lookup no_row left w0 w1
   long-lookup k v left a s e =
       agree no_row extension (high k v) long_rows left w0 w1 s (extension_known, tt)
-          (upper k w1 v a next_fits e)
+      (upper k w1 v a next_fits e)
 
   long-reserved : (k v : ℕ) → k ≤ 16 →
       rest extension (high k v) long_rows ≡ long_row 0 0 0 0 Reserved ∷ [] →
       w1 / 2 ^ k ≡ v → lookup no_row long_rows w0 w1 ≡ two_words Reserved
   long-reserved k v a s e =
       sure no_row extension (high k v) long_rows (long_row 0 0 0 0 Reserved) w0 w1 s refl
-          (extension_known, tt) (upper k w1 v a next_fits e)
+      (extension_known, tt) (upper k w1 v a next_fits e)
 
   -- ---- by the upper four bits of the second word
 
@@ -422,12 +422,12 @@ module _ (w0 w1 : ℕ) (fits : w0 < 0x10000) (is_extension : w0 / 0x800 ≡ 3) (
       w1 / 0x80 ≡ v → lookup no_row long_rows w0 w1 ≡ lookup no_row left w0 w1
   long-lookup_bits v left a b c d e =
       agree no_row
-        ((0xF800, 0x1800) ∷ (0x40, bit_and w0 0x40) ∷ [])
-        ((0xFF80, v * 0x80) ∷ (0x40, bit_and w1 0x40) ∷ [])
-        long_rows left w0 w1
-        (same_left v left (bit_and w0 0x40) (bit_and w1 0x40) (bit_6 w0) (bit_6 w1) a b c d)
-        (extension_known w0 w1 fits is_extension next_fits, (refl, tt))
-        ((upper 7 w1 v (lit≤ tt) next_fits e).0, (refl, tt))
+      ((0xF800, 0x1800) ∷ (0x40, bit_and w0 0x40) ∷ [])
+      ((0xFF80, v * 0x80) ∷ (0x40, bit_and w1 0x40) ∷ [])
+      long_rows left w0 w1
+      (same_left v left (bit_and w0 0x40) (bit_and w1 0x40) (bit_6 w0) (bit_6 w1) a b c d)
+      (extension_known w0 w1 fits is_extension next_fits, (refl, tt))
+      ((upper 7 w1 v (lit≤ tt) next_fits e).0, (refl, tt))
 
   pub long_20 : w1 / 0x80 ≡ 0x20 →
       lookup no_row long_rows w0 w1 ≡ lookup no_row (long_rotate_rows (LongOne Rrc)) w0 w1
@@ -461,12 +461,67 @@ module _ (w0 w1 : ℕ) (fits : w0 < 0x10000) (is_extension : w0 / 0x800 ≡ 3) (
 
 -- ---- as contracts take them
 
-pub ruleset first_nibbles = (at_0, at_2, at_3, at_4, at_5, at_6, at_7, at_8, at_9, at_A, at_B, at_C,
-    at_D, at_E, at_F)
+pub ruleset first_nibbles = (
+  at_0,
+  at_2,
+  at_3,
+  at_4,
+  at_5,
+  at_6,
+  at_7,
+  at_8,
+  at_9,
+  at_A,
+  at_B,
+  at_C,
+  at_D,
+  at_E,
+  at_F,
+)
+
 pub ruleset second_nibbles = (at_10, at_11, at_12, at_13, at_14, at_15, at_16, at_17, at_extension)
-pub ruleset one_operand_prefixes = (one_40, one_41, one_42, one_44, one_45, one_46, one_43, one_47,
-    one_48, one_49, one_4A, one_4B)
-pub ruleset long_nibbles = (long_0, long_2, long_3, long_4, long_5, long_6, long_7, long_8, long_9,
-    long_A, long_B, long_C, long_D, long_E, long_F)
-pub ruleset long_one_operand_prefixes = (long_25, long_13, long_14, long_18, long_20, long_21,
-    long_22, long_23, long_24)
+
+pub ruleset one_operand_prefixes = (
+  one_40,
+  one_41,
+  one_42,
+  one_44,
+  one_45,
+  one_46,
+  one_43,
+  one_47,
+  one_48,
+  one_49,
+  one_4A,
+  one_4B,
+)
+
+pub ruleset long_nibbles = (
+  long_0,
+  long_2,
+  long_3,
+  long_4,
+  long_5,
+  long_6,
+  long_7,
+  long_8,
+  long_9,
+  long_A,
+  long_B,
+  long_C,
+  long_D,
+  long_E,
+  long_F,
+)
+
+pub ruleset long_one_operand_prefixes = (
+  long_25,
+  long_13,
+  long_14,
+  long_18,
+  long_20,
+  long_21,
+  long_22,
+  long_23,
+  long_24,
+)

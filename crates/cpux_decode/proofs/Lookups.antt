@@ -22,7 +22,7 @@ lookup-passes q e [] w0 w1 h a = h
 lookup-passes {A} q e (row ∷ rows) w0 w1 h a =
     let s = both (q row.says) (list_all (λ (row : Row A). q row.says) rows) a in
     chosen_passes q (meets row w0 w1) row.says (lookup e rows w0 w1) (λ _. s.0)
-        (lookup-passes q e rows w0 w1 h s.1)
+    (lookup-passes q e rows w0 w1 h s.1)
 
 kept_default : {A : Type 0} (t u : Bool) (x y z : A) → (t || u) ≡ true → (u ≡ true → y ≡ z) →
     cond t x y ≡ cond t x z
@@ -35,7 +35,7 @@ pub lookup-any : {A : Type 0} (e d : A) (rows : List (Row A)) (w0 w1 : ℕ) →
 lookup-any e d [] w0 w1 h = cc
 lookup-any {A} e d (row ∷ rows) w0 w1 h =
     kept_default (meets row w0 w1) (list_any (λ (row : Row A). meets row w0 w1) rows) row.says
-      (lookup e rows w0 w1) (lookup d rows w0 w1) h (lookup-any e d rows w0 w1)
+    (lookup e rows w0 w1) (lookup d rows w0 w1) h (lookup-any e d rows w0 w1)
 
 default_left : {A : Type 0} (t u : Bool) (x y e : A) → (t || u) ≡ false → (u ≡ false → y ≡ e) →
     cond t x y ≡ e
@@ -48,7 +48,7 @@ pub lookup-none : {A : Type 0} (e : A) (rows : List (Row A)) (w0 w1 : ℕ) →
 lookup-none e [] w0 w1 h = refl
 lookup-none {A} e (row ∷ rows) w0 w1 h =
     default_left (meets row w0 w1) (list_any (λ (row : Row A). meets row w0 w1) rows) row.says
-      (lookup e rows w0 w1) e h (lookup-none e rows w0 w1)
+    (lookup e rows w0 w1) e h (lookup-none e rows w0 w1)
 
 -- where there is one row, the default does not count
 pub first_says-one : {A : Type 0} (e d : A) (rows : List (Row A)) → length rows ≡ 1 →
@@ -93,10 +93,10 @@ pub lookup-alone : {A : Type 0} (e : A) (rows : List (Row A)) (w0 w1 w2 : ℕ) �
 lookup-alone e [] w0 w1 w2 n a = refl
 lookup-alone {A} e (row ∷ rows) w0 w1 w2 n a =
     let s =
-        both (is_long row || is_short row) (list_all (λ (row : Row A). is_long row || is_short row) rows) a
-          in
+    both (is_long row || is_short row) (list_all (λ (row : Row A). is_long row || is_short row) rows) a
+    in
     ap (λ (t : Bool). cond t row.says (lookup e rows w0 w1))
-        (alone_same row w0 w1 w2 (is_long row) (is_short row) refl refl s.0 n)
+    (alone_same row w0 w1 w2 (is_long row) (is_short row) refl refl s.0 n)
     ∙ ap (λ (x : A). cond (meets row w0 w2) row.says x) (lookup-alone e rows w0 w1 w2 n s.1)
 
 met_passes : {A : Type 0} (q : A → Bool) (row : Row A) (w0 w1 : ℕ) (l : Bool) → is_long row ≡ l →
@@ -111,6 +111,6 @@ pub lookup-passes_alone : {A : Type 0} (q : A → Bool) (e : A) (rows : List (Ro
 lookup-passes_alone q e [] w0 w1 n h a = h
 lookup-passes_alone {A} q e (row ∷ rows) w0 w1 n h a =
     let s =
-        both (is_long row || q row.says) (list_all (λ (row : Row A). is_long row || q row.says) rows) a in
+    both (is_long row || q row.says) (list_all (λ (row : Row A). is_long row || q row.says) rows) a in
     chosen_passes q (meets row w0 w1) row.says (lookup e rows w0 w1)
-        (met_passes q row w0 w1 (is_long row) refl s.0 n) (lookup-passes_alone q e rows w0 w1 n h s.1)
+    (met_passes q row w0 w1 (is_long row) refl s.0 n) (lookup-passes_alone q e rows w0 w1 n h s.1)

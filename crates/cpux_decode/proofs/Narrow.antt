@@ -30,7 +30,7 @@ abbrev pub narrow_next : {A : Type 0} → ℕ → ℕ → List (Row A) → List 
 narrow_next m v [] = []
 narrow_next m v (row ∷ rows) =
     kept_row (bit_and v row.next_mask == bit_and row.next_value m) (left_row_next m row)
-      (narrow_next m v rows)
+    (narrow_next m v rows)
 
 -- a row that asks nothing more
 abbrev pub trivial : {A : Type 0} → Row A → Bool
@@ -66,17 +66,17 @@ bit_back w rm rv m v a b c d e h k l = omega arith
 pub fits : (w rm rv m v : ℕ) → bit_and w m ≡ v → bit_and w rm ≡ rv → bit_and v rm ≡ bit_and rv m
 fits w rm rv m v h k = same_from_bits (bit_and v rm) (bit_and rv m) (λ i.
     bit_at_and v rm i
-      ∙ bit_fits (bit_at w i) (bit_at rm i) (bit_at rv i) (bit_at m i) (bit_at v i) (bit_at-lt w i)
-          (bit_at-lt rm i) (bit_at-lt rv i) (bit_at-lt m i) (bit_at-lt v i)
+    ∙ bit_fits (bit_at w i) (bit_at rm i) (bit_at rv i) (bit_at m i) (bit_at v i) (bit_at-lt w i)
+    (bit_at-lt rm i) (bit_at-lt rv i) (bit_at-lt m i) (bit_at-lt v i)
     (sym (bit_at_and w m i) ∙ ap (λ x. bit_at x i) h) (sym (bit_at_and w rm i) ∙ ap (λ x. bit_at x i) k)
-      ∙ sym (bit_at_and rv m i))
+    ∙ sym (bit_at_and rv m i))
 
 left_bit : (w x m i : ℕ) →
     bit_at (bit_and w (without m x)) i ≡ min (bit_at w i) ((bit_at x i + min (bit_at x i) (bit_at m i)) % 2)
 left_bit w x m i =
     bit_at_and w (without m x) i
     ∙ ap (min (bit_at w i))
-        (bit_at_xor x (bit_and x m) i ∙ ap (λ y. (bit_at x i + y) % 2) (bit_at_and x m i))
+    (bit_at_xor x (bit_and x m) i ∙ ap (λ y. (bit_at x i + y) % 2) (bit_at_and x m i))
 
 without_bit : (x m i : ℕ) → bit_at (without m x) i ≡ (bit_at x i + min (bit_at x i) (bit_at m i)) % 2
 without_bit x m i = bit_at_xor x (bit_and x m) i ∙ ap (λ y. (bit_at x i + y) % 2) (bit_at_and x m i)
@@ -85,18 +85,18 @@ without_bit x m i = bit_at_xor x (bit_and x m) i ∙ ap (λ y. (bit_at x i + y) 
 pub left : (w rm rv m v : ℕ) → bit_and w m ≡ v → bit_and w rm ≡ rv → bit_and w (without m rm) ≡ without m rv
 left w rm rv m v h k = same_from_bits _ _ (λ i.
     left_bit w rm m i
-      ∙ bit_left (bit_at w i) (bit_at rm i) (bit_at rv i) (bit_at m i) (bit_at v i) (bit_at-lt w i)
-          (bit_at-lt rm i) (bit_at-lt rv i) (bit_at-lt m i) (bit_at-lt v i)
+    ∙ bit_left (bit_at w i) (bit_at rm i) (bit_at rv i) (bit_at m i) (bit_at v i) (bit_at-lt w i)
+    (bit_at-lt rm i) (bit_at-lt rv i) (bit_at-lt m i) (bit_at-lt v i)
     (sym (bit_at_and w m i) ∙ ap (λ x. bit_at x i) h) (sym (bit_at_and w rm i) ∙ ap (λ x. bit_at x i) k)
-      ∙ sym (without_bit rv m i))
+    ∙ sym (without_bit rv m i))
 
 -- a row that has the known bits, and is met without them, is met
 pub back : (w rm rv m v : ℕ) → bit_and w m ≡ v → bit_and v rm ≡ bit_and rv m →
     bit_and w (without m rm) ≡ without m rv → bit_and w rm ≡ rv
 back w rm rv m v h k l = same_from_bits _ _ (λ i.
     bit_at_and w rm i
-      ∙ bit_back (bit_at w i) (bit_at rm i) (bit_at rv i) (bit_at m i) (bit_at v i) (bit_at-lt w i)
-          (bit_at-lt rm i) (bit_at-lt rv i) (bit_at-lt m i) (bit_at-lt v i)
+    ∙ bit_back (bit_at w i) (bit_at rm i) (bit_at rv i) (bit_at m i) (bit_at v i) (bit_at-lt w i)
+    (bit_at-lt rm i) (bit_at-lt rv i) (bit_at-lt m i) (bit_at-lt v i)
     (sym (bit_at_and w m i) ∙ ap (λ x. bit_at x i) h)
     (sym (bit_at_and v rm i) ∙ ap (λ x. bit_at x i) k ∙ bit_at_and rv m i)
     (sym (left_bit w rm m i) ∙ ap (λ x. bit_at x i) l ∙ without_bit rv m i))
@@ -122,11 +122,11 @@ lookup_keep : {A : Type 0} (e : A) (m v : ℕ) (row : Row A) (rows rest : List (
     lookup e (row ∷ rows) w0 w1 ≡ lookup e (kept_row t (left_row m row) rest) w0 w1
 lookup_keep {A} e m v row rows rest w0 w1 true h k r =
     ap (λ (t : Bool). cond (t && (bit_and w1 row.next_mask == row.next_value)) row.says (lookup e rows w0 w1))
-      (test_left w0 row.mask row.value m v h k)
+    (test_left w0 row.mask row.value m v h k)
     ∙ ap (λ (x : A). cond (meets (left_row m row) w0 w1) row.says x) r
 lookup_keep {A} e m v row rows rest w0 w1 false h k r =
     ap (λ (t : Bool). cond (t && (bit_and w1 row.next_mask == row.next_value)) row.says (lookup e rows w0 w1))
-      (test_none w0 row.mask row.value m v h k)
+    (test_none w0 row.mask row.value m v h k)
     ∙ r
 
 pub lookup-narrow : {A : Type 0} (e : A) (m v : ℕ) (rows : List (Row A)) (w0 w1 : ℕ) → bit_and w0 m ≡ v →
@@ -134,7 +134,7 @@ pub lookup-narrow : {A : Type 0} (e : A) (m v : ℕ) (rows : List (Row A)) (w0 w
 lookup-narrow e m v [] w0 w1 h = refl
 lookup-narrow e m v (row ∷ rows) w0 w1 h =
     lookup_keep e m v row rows (narrow m v rows) w0 w1 (bit_and v row.mask == bit_and row.value m) h refl
-      (lookup-narrow e m v rows w0 w1 h)
+    (lookup-narrow e m v rows w0 w1 h)
 
 lookup_keep_next : {A : Type 0} (e : A) (m v : ℕ) (row : Row A) (rows rest : List (Row A)) (w0 w1 : ℕ) (t : Bool) →
     bit_and w1 m ≡ v → (bit_and v row.next_mask == bit_and row.next_value m) ≡ t →
@@ -142,13 +142,13 @@ lookup_keep_next : {A : Type 0} (e : A) (m v : ℕ) (row : Row A) (rows rest : L
     lookup e (row ∷ rows) w0 w1 ≡ lookup e (kept_row t (left_row_next m row) rest) w0 w1
 lookup_keep_next {A} e m v row rows rest w0 w1 true h k r =
     ap (λ (t : Bool). cond ((bit_and w0 row.mask == row.value) && t) row.says (lookup e rows w0 w1))
-        (test_left w1 row.next_mask row.next_value m v h k)
+    (test_left w1 row.next_mask row.next_value m v h k)
     ∙ ap (λ (x : A). cond (meets (left_row_next m row) w0 w1) row.says x) r
 lookup_keep_next {A} e m v row rows rest w0 w1 false h k r =
     ap (λ (t : Bool). cond ((bit_and w0 row.mask == row.value) && t) row.says (lookup e rows w0 w1))
-        (test_none w1 row.next_mask row.next_value m v h k)
+    (test_none w1 row.next_mask row.next_value m v h k)
     ∙ ap (λ (t : Bool). cond t row.says (lookup e rows w0 w1))
-        (and_false (bit_and w0 row.mask == row.value))
+    (and_false (bit_and w0 row.mask == row.value))
     ∙ r
 
 pub lookup-narrow_next : {A : Type 0} (e : A) (m v : ℕ) (rows : List (Row A)) (w0 w1 : ℕ) →
@@ -156,7 +156,7 @@ pub lookup-narrow_next : {A : Type 0} (e : A) (m v : ℕ) (rows : List (Row A)) 
 lookup-narrow_next e m v [] w0 w1 h = refl
 lookup-narrow_next e m v (row ∷ rows) w0 w1 h =
     lookup_keep_next e m v row rows (narrow_next m v rows) w0 w1
-      (bit_and v row.next_mask == bit_and row.next_value m) h refl (lookup-narrow_next e m v rows w0 w1 h)
+    (bit_and v row.next_mask == bit_and row.next_value m) h refl (lookup-narrow_next e m v rows w0 w1 h)
 
 pub trivial_meets : {A : Type 0} (row : Row A) (w0 w1 : ℕ) → trivial row ≡ true → meets row w0 w1 ≡ true
 trivial_meets row w0 w1 h = grind (arith, nat_tests, and_zero_r w0, and_zero_r w1)
@@ -166,7 +166,7 @@ lookup_ended : {A : Type 0} (e : A) (row : Row A) (rows rest : List (Row A)) (w0
     lookup e (row ∷ rows) w0 w1 ≡ lookup e (ended t row rest) w0 w1
 lookup_ended {A} e row rows rest w0 w1 true h r =
     ap (λ (t : Bool). cond t row.says (lookup e rows w0 w1)) (trivial_meets row w0 w1 h)
-      ∙ sym (ap (λ (t : Bool). cond t row.says e) (trivial_meets row w0 w1 h))
+    ∙ sym (ap (λ (t : Bool). cond t row.says e) (trivial_meets row w0 w1 h))
 lookup_ended {A} e row rows rest w0 w1 false h r = ap (λ (x : A). cond (meets row w0 w1) row.says x) r
 
 pub lookup-cut : {A : Type 0} (e : A) (rows : List (Row A)) (w0 w1 : ℕ) →

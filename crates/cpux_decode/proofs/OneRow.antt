@@ -35,15 +35,15 @@ done_one w0 w1 (row ∷ other ∷ rows) o h = cc
 
 tested : passes done places places reserved_rows ordinary_rows ≡ true
 unfolding passes passes_next reserved_rows ordinary_rows address_rows one_operand_rows
-      reserved_one_operand_rows call_rows reserved_call_rows many_rows extended_rows reserved_extended_rows
-      reserved_before_rows reserved_width_rows reserved_operand_rows jump_rows two_operand_rows
+    reserved_one_operand_rows call_rows reserved_call_rows many_rows extended_rows reserved_extended_rows
+    reserved_before_rows reserved_width_rows reserved_operand_rows jump_rows two_operand_rows
 tested = refl
 
 pub each_pair_meets_one_row : EachPairMeetsOneRow
 each_pair_meets_one_row w0 w1 =
     length-or_else (rows_met reserved_rows w0 w1) (rows_met ordinary_rows w0 w1)
     ∙ passes-tells done (λ m n. either m n ≡ 1) w0 w1 (done_one w0 w1) places places reserved_rows
-        ordinary_rows tested
+    ordinary_rows tested
 
 -- ---- lookups
 

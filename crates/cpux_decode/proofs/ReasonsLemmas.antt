@@ -34,7 +34,7 @@ list_any-met : {A : Type 0} (rows : List (Row A)) (w0 w1 : ℕ) →
 list_any-met [] w0 w1 = refl
 list_any-met {A} (row ∷ rows) w0 w1 =
     any_kept (meets row w0 w1) (list_any (λ (row : Row A). meets row w0 w1) rows) row (rows_met rows w0 w1)
-      (list_any-met rows w0 w1)
+    (list_any-met rows w0 w1)
 
 kept_some : {A : Type 0} (t u left : Bool) (row : Row A) (rows : List (Row A)) → (u ≡ true → t ≡ true) →
     (left ≡ true → some (length rows) ≡ true) → (elim u [ true ↦ true | false ↦ left ]) ≡ true →
@@ -48,7 +48,7 @@ some_met : {A : Type 0} (rows : List (Row A)) (w0 w1 : ℕ) → has_trivial rows
 some_met [] w0 w1 h = cc
 some_met {A} (row ∷ rows) w0 w1 h =
     kept_some (meets row w0 w1) (trivial row) (has_trivial rows) row (rows_met rows w0 w1)
-      (trivial_meets row w0 w1) (some_met rows w0 w1) h
+    (trivial_meets row w0 w1) (some_met rows w0 w1) h
 
 settled_same : {A : Type 0} (w0 w1 : ℕ) (rows others : List (Row A)) → settled rows others ≡ true →
     some (length (rows_met rows w0 w1)) ≡ some (length (rows_met others w0 w1))
@@ -60,8 +60,8 @@ settled_same w0 w1 (row ∷ rows) others h =
 
 tested : passes settled places places reserved_rows reasons ≡ true
 unfolding passes passes_next reserved_rows reserved_one_operand_rows reserved_call_rows
-      reserved_extended_rows reserved_before_rows reserved_width_rows reserved_operand_rows unassigned bytes
-      constants_written reasons_alone not_extended reserved_without no_width one_width reasons
+    reserved_extended_rows reserved_before_rows reserved_width_rows reserved_operand_rows unassigned bytes
+    constants_written reasons_alone not_extended reserved_without no_width one_width reasons
 tested = refl
 
 pub reserved_for_reasons : ReservedForReasons
@@ -69,5 +69,5 @@ unfolding is_reserved has_reason
 reserved_for_reasons w0 w1 =
     list_any-met reserved_rows w0 w1
     ∙ passes-tells settled (λ m n. some m ≡ some n) w0 w1 (settled_same w0 w1) places places reserved_rows
-        reasons tested
+    reasons tested
     ∙ sym (list_any-met reasons w0 w1)

@@ -28,16 +28,16 @@ count_keep : {A : Type 0} (m v : ℕ) (row : Row A) (rows rest : List (Row A)) (
     length (rows_met (row ∷ rows) w0 w1) ≡ length (rows_met (kept_row t (left_row m row) rest) w0 w1)
 count_keep {A} m v row rows rest w0 w1 true h k r =
     ap
-        (λ (t : Bool). length
-            (kept_row (t && (bit_and w1 row.next_mask == row.next_value)) row (rows_met rows w0 w1)))
-        (test_left w0 row.mask row.value m v h k)
+    (λ (t : Bool). length
+    (kept_row (t && (bit_and w1 row.next_mask == row.next_value)) row (rows_met rows w0 w1)))
+    (test_left w0 row.mask row.value m v h k)
     ∙ same_kept (meets (left_row m row) w0 w1) row (left_row m row) (rows_met rows w0 w1)
-        (rows_met rest w0 w1) r
+    (rows_met rest w0 w1) r
 count_keep {A} m v row rows rest w0 w1 false h k r =
     ap
-        (λ (t : Bool). length
-            (kept_row (t && (bit_and w1 row.next_mask == row.next_value)) row (rows_met rows w0 w1)))
-        (test_none w0 row.mask row.value m v h k)
+    (λ (t : Bool). length
+    (kept_row (t && (bit_and w1 row.next_mask == row.next_value)) row (rows_met rows w0 w1)))
+    (test_none w0 row.mask row.value m v h k)
     ∙ r
 
 count_keep_next : {A : Type 0} (m v : ℕ) (row : Row A) (rows rest : List (Row A)) (w0 w1 : ℕ) (t : Bool) →
@@ -46,14 +46,14 @@ count_keep_next : {A : Type 0} (m v : ℕ) (row : Row A) (rows rest : List (Row 
     length (rows_met (row ∷ rows) w0 w1) ≡ length (rows_met (kept_row t (left_row_next m row) rest) w0 w1)
 count_keep_next {A} m v row rows rest w0 w1 true h k r =
     ap (λ (t : Bool). length (kept_row ((bit_and w0 row.mask == row.value) && t) row (rows_met rows w0 w1)))
-        (test_left w1 row.next_mask row.next_value m v h k)
+    (test_left w1 row.next_mask row.next_value m v h k)
     ∙ same_kept (meets (left_row_next m row) w0 w1) row (left_row_next m row) (rows_met rows w0 w1)
-        (rows_met rest w0 w1) r
+    (rows_met rest w0 w1) r
 count_keep_next {A} m v row rows rest w0 w1 false h k r =
     ap (λ (t : Bool). length (kept_row ((bit_and w0 row.mask == row.value) && t) row (rows_met rows w0 w1)))
-        (test_none w1 row.next_mask row.next_value m v h k)
+    (test_none w1 row.next_mask row.next_value m v h k)
     ∙ ap (λ (t : Bool). length (kept_row t row (rows_met rows w0 w1)))
-        (and_false (bit_and w0 row.mask == row.value))
+    (and_false (bit_and w0 row.mask == row.value))
     ∙ r
 
 count-narrow : {A : Type 0} (m v : ℕ) (rows : List (Row A)) (w0 w1 : ℕ) → bit_and w0 m ≡ v →
@@ -61,14 +61,14 @@ count-narrow : {A : Type 0} (m v : ℕ) (rows : List (Row A)) (w0 w1 : ℕ) → 
 count-narrow m v [] w0 w1 h = refl
 count-narrow m v (row ∷ rows) w0 w1 h =
     count_keep m v row rows (narrow m v rows) w0 w1 (bit_and v row.mask == bit_and row.value m) h refl
-      (count-narrow m v rows w0 w1 h)
+    (count-narrow m v rows w0 w1 h)
 
 count-narrow_next : {A : Type 0} (m v : ℕ) (rows : List (Row A)) (w0 w1 : ℕ) → bit_and w1 m ≡ v →
     length (rows_met rows w0 w1) ≡ length (rows_met (narrow_next m v rows) w0 w1)
 count-narrow_next m v [] w0 w1 h = refl
 count-narrow_next m v (row ∷ rows) w0 w1 h =
     count_keep_next m v row rows (narrow_next m v rows) w0 w1
-      (bit_and v row.next_mask == bit_and row.next_value m) h refl (count-narrow_next m v rows w0 w1 h)
+    (bit_and v row.next_mask == bit_and row.next_value m) h refl (count-narrow_next m v rows w0 w1 h)
 
 -- how many rows two words meet
 -- the ways in which the test passes
@@ -131,13 +131,13 @@ Counted-narrow : {A : Type 0} (P : ℕ → ℕ → Type 0) (m v : ℕ) (r o : Li
     bit_and w0 m ≡ v → Counted P (narrow m v r) (narrow m v o) w0 w1 → Counted P r o w0 w1
 Counted-narrow P m v r o w0 w1 h c =
     subst (λ n. P n (length (rows_met o w0 w1))) (sym (count-narrow m v r w0 w1 h))
-      (subst (P (length (rows_met (narrow m v r) w0 w1))) (sym (count-narrow m v o w0 w1 h)) c)
+    (subst (P (length (rows_met (narrow m v r) w0 w1))) (sym (count-narrow m v o w0 w1 h)) c)
 
 Counted-narrow_next : {A : Type 0} (P : ℕ → ℕ → Type 0) (m v : ℕ) (r o : List (Row A)) (w0 w1 : ℕ) →
     bit_and w1 m ≡ v → Counted P (narrow_next m v r) (narrow_next m v o) w0 w1 → Counted P r o w0 w1
 Counted-narrow_next P m v r o w0 w1 h c =
     subst (λ n. P n (length (rows_met o w0 w1))) (sym (count-narrow_next m v r w0 w1 h))
-      (subst (P (length (rows_met (narrow_next m v r) w0 w1))) (sym (count-narrow_next m v o w0 w1 h)) c)
+    (subst (P (length (rows_met (narrow_next m v r) w0 w1))) (sym (count-narrow_next m v o w0 w1 h)) c)
 
 passes_next-tells : {A : Type 0} (test : Test A) (P : ℕ → ℕ → Type 0) (w0 w1 : ℕ) →
     ((r o : List (Row A)) → test r o ≡ true → Counted P r o w0 w1) →
@@ -153,9 +153,9 @@ passes_next-tells test P w0 w1 told (k ∷ ks) r o h =
         | inl t ↦ passes_next-tells test P w0 w1 told ks r o t
         | inr t ↦ elim (bit_is w1 k) as (λ _. Counted P r o w0 w1) [
           | inl z ↦ Counted-narrow_next P (2 ^ k) 0 r o w0 w1 z
-            (passes_next-tells test P w0 w1 told ks (narrow_next (2 ^ k) 0 r) (narrow_next (2 ^ k) 0 o) t.0)
+              (passes_next-tells test P w0 w1 told ks (narrow_next (2 ^ k) 0 r) (narrow_next (2 ^ k) 0 o) t.0)
           | inr b ↦ Counted-narrow_next P (2 ^ k) (2 ^ k) r o w0 w1 b
-            (passes_next-tells test P w0 w1 told ks (narrow_next (2 ^ k) (2 ^ k) r) (narrow_next (2 ^ k) (2 ^ k) o) t.1)
+              (passes_next-tells test P w0 w1 told ks (narrow_next (2 ^ k) (2 ^ k) r) (narrow_next (2 ^ k) (2 ^ k) o) t.1)
         ]
       ]
     ]
@@ -175,9 +175,9 @@ passes-tells test P w0 w1 told (k ∷ ks) js r o h =
         | inl t ↦ passes-tells test P w0 w1 told ks js r o t
         | inr t ↦ elim (bit_is w0 k) as (λ _. Counted P r o w0 w1) [
           | inl z ↦ Counted-narrow P (2 ^ k) 0 r o w0 w1 z
-            (passes-tells test P w0 w1 told ks js (narrow (2 ^ k) 0 r) (narrow (2 ^ k) 0 o) t.0)
+              (passes-tells test P w0 w1 told ks js (narrow (2 ^ k) 0 r) (narrow (2 ^ k) 0 o) t.0)
           | inr b ↦ Counted-narrow P (2 ^ k) (2 ^ k) r o w0 w1 b
-            (passes-tells test P w0 w1 told ks js (narrow (2 ^ k) (2 ^ k) r) (narrow (2 ^ k) (2 ^ k) o) t.1)
+              (passes-tells test P w0 w1 told ks js (narrow (2 ^ k) (2 ^ k) r) (narrow (2 ^ k) (2 ^ k) o) t.1)
         ]
       ]
     ]

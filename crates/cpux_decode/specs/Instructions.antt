@@ -24,9 +24,9 @@ two_operands op words =
     let from = bits word 11 8 in
     let next = 1 + source_words mode from in
     made.Two op (size_of word)
-      (source_place false 0 mode from (slice_index words 1))
-      (destination_place false 0 (bits word 7 7) (bits word 3 0) (slice_index words next))
-      once false
+    (source_place false 0 mode from (slice_index words 1))
+    (destination_place false 0 (bits word 7 7) (bits word 3 0) (slice_index words next))
+    once false
 
 -- behind an extension word, which has bits 19:16 of the source in 10:7 and those of the destination in
 -- 3:0. The register form, As 00 and Ad 0, is repeated.
@@ -38,17 +38,17 @@ long_two_operands op words =
     let from = bits word 11 8 in
     let next = 2 + source_words mode from in
     made.Two op (long_size_of extension word)
-      (source_place true (bits extension 10 7) mode from (slice_index words 2))
-      (destination_place true (bits extension 3 0) (bits word 7 7) (bits word 3 0) (slice_index words next))
-      (rep_of ((mode == 0) && (bits word 7 7 == 0)) extension) true
+    (source_place true (bits extension 10 7) mode from (slice_index words 2))
+    (destination_place true (bits extension 3 0) (bits word 7 7) (bits word 3 0) (slice_index words next))
+    (rep_of ((mode == 0) && (bits word 7 7 == 0)) extension) true
 
 -- one operand: the operation in bits 9:7, B/W 6, As 5:4, the register in 3:0
 unfoldable pub one_operand : Op1 → List ℕ → Decoded
 one_operand op words =
     let word = slice_index words 0 in
     made.One op (size_of word)
-      (source_place false 0 (bits word 5 4) (bits word 3 0) (slice_index words 1))
-      once false
+    (source_place false 0 (bits word 5 4) (bits word 3 0) (slice_index words 1))
+    once false
 
 abbrev pub is_push : Op1 → Bool
 is_push Push = true
@@ -62,8 +62,8 @@ long_one_operand op words =
     let word = slice_index words 1 in
     let mode = bits word 5 4 in
     made.One op (long_size_of extension word)
-      (source_place true (bits extension 3 0) mode (bits word 3 0) (slice_index words 2))
-      (rep_of ((mode == 0) && not (is_push op)) extension) true
+    (source_place true (bits extension 3 0) mode (bits word 3 0) (slice_index words 2))
+    (rep_of ((mode == 0) && not (is_push op)) extension) true
 
 -- a jump: the condition in bits 12:10, and in 9:0 a signed distance in words
 unfoldable pub jump : ℕ → Decoded
@@ -83,7 +83,7 @@ shift_operation n =
 unfoldable pub shift_many : ℕ → Decoded
 shift_many word =
     made.Shift (shift_operation (bits word 9 8)) (if bit word 4 then Word else Addr)
-      (bits word 11 10 + 1) (bits word 3 0)
+    (bits word 11 10 + 1) (bits word 3 0)
 
 -- PUSHM and POPM: .W in bit 8, the count less one in bits 7:4, the register in 3:0
 abbrev pub many_size : ℕ → Size

@@ -11,6 +11,7 @@ use Rattle.cpux_decode.specs.declared.instructions.Count.TheVariants.{Fixed, InR
 abbrev pub bits : ℕ → ℕ → ℕ → ℕ
 bits word high low = word / 2 ^ low % 2 ^ (high + 1 - low)
 
+-- whether a bit is set
 abbrev pub bit : ℕ → ℕ → Bool
 bit word n = word / 2 ^ n % 2 == 1
 
@@ -22,25 +23,26 @@ wide high low = high * 0x10000 + low
 abbrev pub sign_extended : ℕ → ℕ
 sign_extended x = if nat_lt x 0x8000 then x else 0xF0000 + x
 
--- a register with an index word. Behind an extension word the index has 20 bits.
+-- a register with an index word; behind an extension word the index has 20 bits
 abbrev pub indexed : Bool → ℕ → ℕ → ℕ → Place
 indexed true high r x = Far r (wide high x)
 indexed false high r x = Near r x
 
--- As 00: a register
+-- As 00: a register. R3 gives the constant 0.
 abbrev pub register_place : ℕ → Place
 register_place r = if r == 3 then Const 0 else Reg r
 
--- As 01: indexed, and absolute on R2
+-- As 01: indexed, and absolute on R2. R3 gives the constant 1.
 abbrev pub indexed_place : Bool → ℕ → ℕ → ℕ → Place
 indexed_place long high r x =
     if r == 2 then Absolute (wide high x) else if r == 3 then Const 1 else indexed long high r x
 
--- As 10: where a register points
+-- As 10: where a register points. R2 gives the constant 4, and R3 gives 2.
 abbrev pub indirect_place : ℕ → Place
 indirect_place r = if r == 2 then Const 4 else if r == 3 then Const 2 else At r
 
--- As 11: where a register points, which is increased; an immediate on R0
+-- As 11: where a register points, which is increased, and an immediate on R0. R2 gives the constant 8, and
+-- R3 all ones.
 abbrev pub increased_place : ℕ → ℕ → ℕ → Place
 increased_place high r x =
     if r == 0 then Imm (wide high x)
@@ -80,6 +82,7 @@ size_of word = if bit word 6 then Byte else Word
 abbrev pub long_size_of : ℕ → ℕ → Size
 long_size_of extension word = if bit extension 6 then size_of word else Addr
 
+-- an operation that is done once, with the carry as it is
 abbrev pub once : Rep
 once = record { zero_carry = false; count = Fixed 1 }
 

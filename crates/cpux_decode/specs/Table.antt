@@ -18,7 +18,7 @@ row mask value form words = record {
   value = value;
   next_mask = 0;
   next_value = 0;
-  says = record { form = form; words = words }
+  says = record { form = form; words = words };
 }
 
 -- a row of an extension word, mask and value, and of the instruction word behind it, mask and value
@@ -28,7 +28,7 @@ long_row mask value next_mask next_value form = record {
   value = value;
   next_mask = next_mask;
   next_value = next_value;
-  says = record { form = form; words = 2 }
+  says = record { form = form; words = 2 };
 }
 
 -- address instructions, by bits 7:4, and the shifts of several places
@@ -248,6 +248,7 @@ ordinary_rows =
 abbrev pub table_rows : ℕ → ℕ → List (Row Entry)
 table_rows w0 w1 = or_else (rows_met reserved_rows w0 w1) (rows_met ordinary_rows w0 w1)
 
+-- the table leaves no pair of words out, and no two of its rows contradict each other
 abbrev pub EachPairMeetsOneRow : Type 0
 EachPairMeetsOneRow = (w0 w1 : ℕ) → length (table_rows w0 w1) ≡ 1
 

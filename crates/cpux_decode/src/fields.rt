@@ -102,6 +102,7 @@ pub fn instruction(form: Form, words: [u16; 4]) -> Decoded
     }
 }
 
+/// Two operands, whose words stand in the order source, destination.
 #[tactic(auto, unfolding(crate::specs::Instructions::two_operands))]
 fn two_operands(op: Op2, words: [u16; 4]) -> Decoded
     ensures instruction { result ≡ two_operands_of op words }
@@ -120,6 +121,7 @@ fn two_operands(op: Op2, words: [u16; 4]) -> Decoded
     }
 }
 
+/// Two operands behind an extension word, which has their bits 19:16.
 #[tactic(auto, unfolding(crate::specs::Instructions::long_two_operands))]
 fn long_two_operands(op: Op2, words: [u16; 4]) -> Decoded
     ensures instruction { result ≡ long_two_operands_of op words }
@@ -139,6 +141,7 @@ fn long_two_operands(op: Op2, words: [u16; 4]) -> Decoded
     }
 }
 
+/// One operand.
 #[tactic(auto, unfolding(crate::specs::Instructions::one_operand))]
 fn one_operand(op: Op1, words: [u16; 4]) -> Decoded
     ensures instruction { result ≡ one_operand_of op words }
@@ -154,6 +157,7 @@ fn one_operand(op: Op1, words: [u16; 4]) -> Decoded
     }
 }
 
+/// One operand behind an extension word, which repeats the register form of all but PUSH.
 #[tactic(auto, unfolding(crate::specs::Instructions::long_one_operand))]
 fn long_one_operand(op: Op1, words: [u16; 4]) -> Decoded
     ensures instruction { result ≡ long_one_operand_of op words }
@@ -171,7 +175,7 @@ fn long_one_operand(op: Op1, words: [u16; 4]) -> Decoded
     }
 }
 
-/// A distance of ten bits, as a signed number.
+/// A condition, and a distance of ten bits as a signed number.
 #[tactic(auto, unfolding(crate::specs::Instructions::jump))]
 fn jump(word: u16) -> Decoded
     ensures instruction { result ≡ jump_of word }
@@ -189,6 +193,7 @@ fn jump(word: u16) -> Decoded
     }
 }
 
+/// The shift that bits 9:8 name.
 fn shift_operation(code: u8) -> OpS
     ensures { result ≡ shift_operation_of code }
 {
@@ -200,6 +205,7 @@ fn shift_operation(code: u8) -> OpS
     }
 }
 
+/// A shift of several places.
 #[tactic(auto, unfolding(crate::specs::Instructions::shift_many))]
 fn shift_many(word: u16) -> Decoded
     ensures instruction { result ≡ shift_many_of word }
@@ -217,6 +223,7 @@ fn shift_many(word: u16) -> Decoded
     }
 }
 
+/// The width of PUSHM and POPM.
 fn many_size(word: u16) -> Size
     ensures { result ≡ many_size_of word }
 {

@@ -4,22 +4,22 @@ use Rattle.std.specs.List.{filter_map, cons_option, last_or}
 use Rattle.std.proofs.lemmas.List.{drop_more, drop_all}
 use Rattle.std.proofs.lemmas.List.Sums.{sum_by-cons}
 use Rattle.elf_image.specs.Elf.{header_of}
-use Rattle.elf_image.specs.Image.{Segment, segment_of, segments, byte_in, byte_of, skipped_in, skipped_of}
+use Rattle.elf_image.specs.Image.{Segment, segment_of, segments_of, byte_in, byte_of, skipped_in, skipped_of}
 
 -- what the headers from an index on load
 segments_from : List ℕ → List (List ℕ) → ℕ → List Segment
-segments_from file headers i = segments file (map header_of (drop i headers))
+segments_from file headers i = segments_of file (map header_of (drop i headers))
 
 segments_from-none : (file : List ℕ) (headers : List (List ℕ)) (i : ℕ) → i < length headers → segment_of file (header_of (get_or headers i [])) ≡ None → segments_from file headers i ≡ segments_from file headers (i + 1)
-unfolding segments_from segments
+unfolding segments_from segments_of
 segments_from-none file headers i h e = rw (drop_more headers i [] h, e) refl
 
 segments_from-some : (file : List ℕ) (headers : List (List ℕ)) (i : ℕ) (s : Segment) → i < length headers → segment_of file (header_of (get_or headers i [])) ≡ Some s → segments_from file headers i ≡ s ∷ segments_from file headers (i + 1)
-unfolding segments_from segments
+unfolding segments_from segments_of
 segments_from-some file headers i s h e = rw (drop_more headers i [] h, e) refl
 
 segments_from-end : (file : List ℕ) (headers : List (List ℕ)) (i : ℕ) → length headers ≤ i → segments_from file headers i ≡ []
-unfolding segments_from segments
+unfolding segments_from segments_of
 segments_from-end file headers i h = rw (drop_all i headers h) refl
 
 -- the byte that an address with a byte has after segments are loaded
@@ -38,9 +38,9 @@ last_or-erased (x ∷ xs) = refl
 pub byte_from : ℕ → List ℕ → List (List ℕ) → ℕ → ℕ → ℕ
 byte_from byte file headers i at = byte_after byte (segments_from file headers i) at
 
-pub byte_from-start : (file : List ℕ) (headers : List (List ℕ)) (at : ℕ) → byte_from 0xFF file headers 0 at ≡ byte_of (segments file (map header_of headers)) at
+pub byte_from-start : (file : List ℕ) (headers : List (List ℕ)) (at : ℕ) → byte_from 0xFF file headers 0 at ≡ byte_of (segments_of file (map header_of headers)) at
 unfolding byte_from byte_after byte_of segments_from
-byte_from-start file headers at = last_or-erased (filter_map (λ segment. byte_in segment at) (segments file (map header_of headers)))
+byte_from-start file headers at = last_or-erased (filter_map (λ segment. byte_in segment at) (segments_of file (map header_of headers)))
 
 pub byte_from-some : (byte : ℕ) (file : List ℕ) (headers : List (List ℕ)) (i at : ℕ) (s : Segment) → i < length headers → segment_of file (header_of (get_or headers i [])) ≡ Some s → byte_from (unwrap_or (byte_in s at) byte) file headers (i + 1) at ≡ byte_from byte file headers i at
 unfolding byte_from
@@ -58,7 +58,7 @@ byte_from-end byte file headers i at h = rw (segments_from-end file headers i h)
 pub skipped_from : List ℕ → List (List ℕ) → ℕ → ℕ
 skipped_from file headers i = skipped_of (segments_from file headers i)
 
-pub skipped_from-start : (file : List ℕ) (headers : List (List ℕ)) → skipped_from file headers 0 ≡ skipped_of (segments file (map header_of headers))
+pub skipped_from-start : (file : List ℕ) (headers : List (List ℕ)) → skipped_from file headers 0 ≡ skipped_of (segments_of file (map header_of headers))
 unfolding skipped_from segments_from
 skipped_from-start file headers = refl
 

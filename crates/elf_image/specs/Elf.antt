@@ -1,10 +1,10 @@
--- A 32-bit ELF file with the least byte first, as far as the loading of a program reads it.
+-- A 32-bit little-endian ELF file, as far as the loading of a program reads it.
 -- In the words of the format a half has two bytes and a word has four.
 use Rattle.std.specs.Prelude.{ℕ, ◌+◌, ◌*◌, Bool, ◌==◌, nat_eq, List, [], ◌∷◌, drop, map}
 use Rattle.std.specs.List.{starts_with}
 use Rattle.std.specs.Simd.{first_chunks}
 use Rattle.byteorder.specs.Endian.{little_number}
-use Rattle.elf_image.specs.declared.headers.Header.{Header}
+use Rattle.elf_image.specs.declared.headers.ProgramHeader.{ProgramHeader}
 
 unfoldable pub half : ℕ → List ℕ → ℕ
 half offset bytes = little_number 2 (drop offset bytes)
@@ -12,7 +12,7 @@ half offset bytes = little_number 2 (drop offset bytes)
 unfoldable pub word : ℕ → List ℕ → ℕ
 word offset bytes = little_number 4 (drop offset bytes)
 
--- the bytes that a file begins with: the magic, then 32 bits and the least byte first
+-- the bytes that a file begins with: the magic, then the marks of 32 bits and of little endian
 abbrev pub identification : List ℕ
 identification = 0x7F ∷ 0x45 ∷ 0x4C ∷ 0x46 ∷ 1 ∷ 1 ∷ []
 
@@ -42,25 +42,27 @@ e_phentsize file = half 42 file
 abbrev pub e_phnum : List ℕ → ℕ
 e_phnum file = half 44 file
 
--- an executable, for the MSP430
+-- the type of an executable, the machine MSP430, and the type of a header whose bytes are loaded
 abbrev pub et_exec : ℕ
 et_exec = 2
 
 abbrev pub em_msp430 : ℕ
 em_msp430 = 105
 
+abbrev pub pt_load : ℕ
+pt_load = 1
+
 -- a program header in its 32 bytes
-unfoldable pub header_of : List ℕ → Header
+unfoldable pub header_of : List ℕ → ProgramHeader
 header_of bytes = record { p_type = word 0 bytes; p_offset = word 4 bytes; p_paddr = word 12 bytes; p_filesz = word 16 bytes }
 
 -- the place behind the table of program headers
 abbrev pub table_end : List ℕ → ℕ
 table_end file = e_phoff file + program_header_size * e_phnum file
 
--- the program headers, in their order
-unfoldable pub header_table : List ℕ → List Header
+-- the program headers in their order: so many parts of 32 bytes, one behind the other
+unfoldable pub header_table : List ℕ → List ProgramHeader
 header_table file = map header_of (first_chunks program_header_size (e_phnum file) (drop (e_phoff file) file))
 
--- a header whose bytes are loaded
-abbrev pub is_load : Header → Bool
-is_load header = header.p_type == 1
+abbrev pub is_load : ProgramHeader → Bool
+is_load header = header.p_type == pt_load

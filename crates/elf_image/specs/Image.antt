@@ -2,7 +2,7 @@
 use Rattle.std.specs.Prelude.{ℕ, ◌+◌, ◌-◌, Bool, not, ◌&&◌, ◌==◌, nat_lt, if◌then◌else◌, List, length, take, drop, filter_map, position, sum_by, count_by, Option, Some, None, unwrap_or, Result, Ok, Err, slice_get}
 use Rattle.std.specs.List.{last_or, range_with_len}
 use Rattle.chip_words.specs.Map.{is_fram}
-use Rattle.elf_image.specs.declared.headers.Header.{Header}
+use Rattle.elf_image.specs.declared.headers.ProgramHeader.{ProgramHeader}
 use Rattle.elf_image.specs.declared.refusals.ImageRefused.{ImageRefused}
 use Rattle.elf_image.specs.declared.refusals.ImageRefused.TheVariants.{Short, NotElf, NotMsp430, NotExec, BadTable, BadSegment}
 use Rattle.elf_image.specs.Elf.{is_elf, elf_header_size, e_type, e_machine, e_phentsize, e_phnum, et_exec, em_msp430, program_header_size, table_end, header_table, is_load}
@@ -13,15 +13,15 @@ pub record Segment : Type 0 where
   pub bytes : List ℕ
 
 -- what a header loads, if it loads anything
-unfoldable pub segment_of : List ℕ → Header → Option Segment
+unfoldable pub segment_of : List ℕ → ProgramHeader → Option Segment
 segment_of file header =
     if is_load header
     then Some (record { at = header.p_paddr; bytes = take header.p_filesz (drop header.p_offset file) })
     else None
 
 -- what headers load, in their order
-unfoldable pub segments : List ℕ → List Header → List Segment
-segments file headers = filter_map (segment_of file) headers
+unfoldable pub segments_of : List ℕ → List ProgramHeader → List Segment
+segments_of file headers = filter_map (segment_of file) headers
 
 -- the byte that a segment gives an address, where it names it
 unfoldable pub byte_in : Segment → ℕ → Option ℕ
@@ -44,13 +44,13 @@ unfoldable pub skipped_of : List Segment → ℕ
 skipped_of segments = sum_by skipped_in segments
 
 -- a header that loads bytes from behind the end of the file
-unfoldable pub leaves : ℕ → Header → Bool
+unfoldable pub leaves : ℕ → ProgramHeader → Bool
 leaves end header = is_load header && not (header.p_filesz == 0) && nat_lt end (header.p_offset + header.p_filesz)
 
 -- what the table of headers loads, or the first header that leaves the file
 abbrev pub loaded : List ℕ → Option ℕ → Result (List Segment) ImageRefused
 loaded file (Some index) = Err (BadSegment index)
-loaded file None = Ok (segments file (header_table file))
+loaded file None = Ok (segments_of file (header_table file))
 
 -- a file with no program headers is an image, whatever is said of their size and place
 abbrev pub has_headers : List ℕ → Bool

@@ -11,7 +11,7 @@ pub const PROGRAM_HEADER_SIZE: usize = 32;
 /// The type of a program header whose segment is loaded.
 const PT_LOAD: u32 = 1;
 
-/// What a 32-bit ELF file with the least byte first begins with: the magic, the class and the order.
+/// What a 32-bit little-endian ELF file begins with: the magic, the class and the byte order.
 const IDENTIFICATION: [u8; 6] = [0x7F, b'E', b'L', b'F', 1, 1];
 
 /// The fields of the ELF header that decide what is loaded.
@@ -33,7 +33,7 @@ pub struct FileHeader {
 ///
 /// A field that is not here decides nothing: the virtual address, the size in memory, the flags.
 #[derive(Clone, Copy, Debug, PartialEq, Eq)]
-pub struct Header {
+pub struct ProgramHeader {
     /// What the header describes. 1 is a segment that is loaded.
     pub p_type: u32,
     /// The place of the segment's bytes in the file.
@@ -62,7 +62,7 @@ fn read_word(bytes: &[u8], offset: usize) -> u32
     LittleEndian::read_u32(&bytes[offset..])
 }
 
-/// Says whether a file begins as a 32-bit ELF file with the least byte first.
+/// Says whether a file begins as a 32-bit little-endian ELF file.
 #[tactic(auto, unfolding(crate::specs::Elf::is_elf))]
 pub fn begins_as_elf(file: &[u8]) -> bool
     ensures { result ≡ is_elf file.now }
@@ -90,7 +90,7 @@ impl FileHeader {
     }
 }
 
-impl Header {
+impl ProgramHeader {
     ghost use Rattle.elf_image.specs.Elf.{header_of, is_load};
     ghost use Rattle.elf_image.specs.Image.{leaves};
 
@@ -99,7 +99,7 @@ impl Header {
     pub fn read(bytes: &[u8; PROGRAM_HEADER_SIZE]) -> Self
         ensures { result ≡ header_of bytes.now }
     {
-        Header {
+        ProgramHeader {
             p_type: read_word(bytes, 0),
             p_offset: read_word(bytes, 4),
             p_paddr: read_word(bytes, 12),

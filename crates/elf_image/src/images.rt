@@ -3,7 +3,9 @@ ghost use Rattle.chip_words.specs.Map.{is_fram};
 ghost use Rattle.elf_image.specs.Elf.{header_of, header_table};
 ghost use Rattle.elf_image.specs.Image.{image_of, leaves, loaded};
 
-use crate::headers::{ELF_HEADER_SIZE, FileHeader, Header, PROGRAM_HEADER_SIZE, begins_as_elf};
+use crate::headers::{
+    ELF_HEADER_SIZE, FileHeader, PROGRAM_HEADER_SIZE, ProgramHeader, begins_as_elf,
+};
 use crate::refusals::ImageRefused;
 use crate::segments::LoadSegment;
 use memory_map::{INFO_END, INFO_START, MAIN_END, MAIN_START};
@@ -28,12 +30,12 @@ pub struct Image<'a> {
 
 impl<'a> Model for Image<'a> {
     ghost use Rattle.std.specs.Prelude.{List, ◌≤◌, length, map};
-    ghost use Rattle.elf_image.specs.Image.{Segment, segments};
+    ghost use Rattle.elf_image.specs.Image.{Segment, segments_of};
     ghost use Rattle.elf_image.specs.Elf.{header_of};
 
     ghost Value = { List Segment };
 
-    ghost view = { λ image. segments image.file.now (map header_of image.headers.now) };
+    ghost view = { λ image. segments_of image.file.now (map header_of image.headers.now) };
 
     ghost invariant = { λ image. length image.headers.now ≤ 0xFFFF };
 }
@@ -107,8 +109,7 @@ fn erase(memory: &mut [u8])
     erase_within(memory, MAIN_START, MAIN_END);
 }
 
-/// The program headers of an executable for the MSP430, or the first refusal that does not need
-/// what they say.
+/// The program headers of a file that nothing but a segment can refuse any more, or the refusal.
 #[tactic(auto, unfolding(crate::specs::Image::image_of, crate::specs::Elf::header_table))]
 fn read_headers<'a>(file: &'a [u8]) -> Result<&'a [[u8; PROGRAM_HEADER_SIZE]], ImageRefused>
     ensures refused { IfErr result (λ refused. image_of file.now ≡ Err refused) }
@@ -151,7 +152,7 @@ fn first_leaving(headers: &[[u8; PROGRAM_HEADER_SIZE]], end: usize) -> Option<us
 {
     headers
         .iter()
-        .position(|bytes| Header::read(bytes).leaves(end))
+        .position(|bytes| ProgramHeader::read(bytes).leaves(end))
 }
 
 /// The image that a file holds, or the first refusal in the order of `ImageRefused`.

@@ -6,7 +6,7 @@ use std::fmt;
 pub enum ImageRefused {
     /// The file needs so many bytes for its header or its table of headers, and has so many.
     Short(u64, u64),
-    /// The file is no 32-bit ELF file with the least byte first.
+    /// The file is no 32-bit little-endian ELF file.
     NotElf,
     /// The file is for another machine, with this number.
     NotMsp430(u16),

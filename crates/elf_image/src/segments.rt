@@ -1,7 +1,7 @@
 ghost use Rattle.std.specs.Prelude.{◌≡◌, ◌<◌, ◌≤◌, ◌+◌, ◌^◌, ℕ, IsTrue, drop, false, length, max, min, slice_index, take, unwrap_or};
 ghost use Rattle.chip_words.specs.Map.{is_fram};
 
-use crate::headers::{Header, PROGRAM_HEADER_SIZE};
+use crate::headers::{PROGRAM_HEADER_SIZE, ProgramHeader};
 use memory_map::{INFO_END, INFO_START, MAIN_END, MAIN_START};
 use std::marker::Model;
 use std::ops::Range;
@@ -41,7 +41,7 @@ impl<'a> LoadSegment<'a> {
     pub fn of(file: &'a [u8], header: &[u8; PROGRAM_HEADER_SIZE]) -> Option<Self>
         ensures { result ≡ segment_of file.now (header_of header.now) }
     {
-        let header = Header::read(header);
+        let header = ProgramHeader::read(header);
         if !header.is_load() {
             return None;
         }

@@ -6,6 +6,9 @@ ghost use Rattle.chip_words.specs.Map.{region_at, has_bytes, is_fram as is_fram_
 
 pub use chip_words::{Region, Size};
 
+#[cfg(test)]
+mod tests;
+
 /// The first address of information FRAM.
 pub const INFO_START: u32 = 0x01800;
 /// The address behind information FRAM.

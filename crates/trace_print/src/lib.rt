@@ -10,4 +10,4 @@ mod tests;
 
 pub use items::TraceItem;
 pub use levels::Level;
-pub use lines::{Line, trace_line};
+pub use lines::trace_line;

@@ -9,7 +9,7 @@ use crate::pieces::{push_decimal, push_hex, push_text};
 use arrayvec::ArrayVec;
 
 /// A line of a trace, with its line feed.
-pub type Line = ArrayVec<u8, 160>;
+pub(crate) type Line = ArrayVec<u8, 160>;
 
 /// The line of an item, with the number of its tick.
 #[tactic(auto, unfolding(crate::specs::Lines::line_of))]

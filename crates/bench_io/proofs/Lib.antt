@@ -1,0 +1,5 @@
+pub mod FileMaps
+pub mod Finds
+pub mod Numbers
+pub mod Places
+pub mod Writing

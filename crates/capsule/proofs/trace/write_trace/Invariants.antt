@@ -1,0 +1,12 @@
+use Rattle.std.proofs.Common.{◌≡◌, ◌-◌}
+use Rattle.bench_io.proofs.Writing.{IsWriting}
+use Rattle.capsule.specs.Trace.{trace_from}
+use Rattle.capsule.proofs.trace.write_trace.Given as goal
+
+-- the text of the ticks before this one is written
+abbrev pub invariant-loop-n : goal.invariant-loop-n
+invariant-loop-n g l = record {
+  text : IsWriting (g.K.Sink.written l.fn.out) (g.K.Sink.written l.out) (trace_from l.end l.fn.chip) (trace_from (l.end - l.n) l.chip);
+  uncounted : g.K.Sink.faults l.out ≡ g.K.Sink.faults l.fn.out;
+  same_tick : (l.chip).tick ≡ l.n;
+}

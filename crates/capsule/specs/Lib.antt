@@ -1,0 +1,4 @@
+pub mod Trace
+pub mod Output
+pub mod Words
+pub mod Exits

@@ -1,0 +1,3 @@
+pub mod Executions
+pub mod FirstMemory
+pub mod Printable

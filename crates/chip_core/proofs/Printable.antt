@@ -1,0 +1,53 @@
+-- Each line of a tick has room for its values.
+use Rattle.std.proofs.Common.{ℕ, zero, suc, ◌≤◌, Bool, true, false, List, [], ◌∷◌, ◌++◌, arith}
+use Rattle.std.specs.Prelude.{All, Option, Some, None, if◌then◌else◌}
+use Rattle.std.proofs.lemmas.List.Elements.{All-append}
+use Rattle.trace_print.specs.declared.items.TraceItem.{TraceItem}
+use Rattle.trace_print.specs.declared.items.TraceItem.TheVariants.{On, Boot, Dead, Pin, Stop}
+use Rattle.trace_print.specs.Lines.{IsPrintable}
+use Rattle.chip_core.specs.declared.boots.Place.{Place}
+use Rattle.chip_core.specs.declared.boots.Place.TheVariants.{Start, Sig, Done}
+use Rattle.chip_core.specs.declared.pins.Pins.{Pins}
+use Rattle.chip_core.specs.State.{State}
+use Rattle.chip_core.specs.Pins.{pins_of, pin_lines, port_line, port_of, levels_of, same_pins}
+use Rattle.chip_core.specs.Tick.{powered, owned}
+use Rattle.chip_core.specs.Lines.{lines_of, power_lines, boot_lines, turn_lines}
+
+none : All IsPrintable []
+none k d h = absurd (omega (arith, h))
+
+more : (item : TraceItem) (items : List TraceItem) → IsPrintable item → All IsPrintable items → All IsPrintable (item ∷ items)
+more item items p q zero d h = p
+more item items p q (suc k) d h = q k d (omega (arith, h))
+
+one : (item : TraceItem) → IsPrintable item → All IsPrintable (item ∷ [])
+one item p = more item [] p none
+
+-- a choice of lists
+either : (test : Bool) (xs ys : List TraceItem) → All IsPrintable xs → All IsPrintable ys → All IsPrintable (if test then xs else ys)
+either true xs ys p q = p
+either false xs ys p q = q
+
+port_line-IsPrintable : (port : ℕ) (before after : Pins) → 1 ≤ port → port ≤ 4 → All IsPrintable (port_line port before after)
+unfolding port_line
+port_line-IsPrintable port before after low high =
+    either (same_pins (port_of port before) (port_of port after)) [] (Pin port (levels_of (port_of port after)) ∷ []) none (one (Pin port (levels_of (port_of port after))) (low, high))
+
+boot_lines-IsPrintable : (place : Option Place) (after : State) → All IsPrintable (boot_lines place after)
+boot_lines-IsPrintable (Some Done) after =
+    more (Boot 0 0 0) (if after.dead then Dead ∷ [] else []) (omega arith, omega arith) (either after.dead (Dead ∷ []) [] (one Dead tt) none)
+boot_lines-IsPrintable (Some Start) after = none
+boot_lines-IsPrintable (Some Sig) after = none
+boot_lines-IsPrintable None after = none
+
+turn_lines-IsPrintable : (place : Option Place) (before : Pins) (after : State) → All IsPrintable (turn_lines place before after)
+turn_lines-IsPrintable place before after =
+    either (after.bus).stop (Stop ∷ []) (boot_lines place after ++ pin_lines before (pins_of after)) (one Stop tt)
+    (All-append IsPrintable (boot_lines place after) (pin_lines before (pins_of after)) (boot_lines-IsPrintable place after)
+    (All-append IsPrintable (port_line 1 before (pins_of after)) (port_line 2 before (pins_of after)) (port_line-IsPrintable 1 before (pins_of after) (omega arith) (omega arith)) (port_line-IsPrintable 2 before (pins_of after) (omega arith) (omega arith))))
+
+pub printable : (chip : State) → All IsPrintable (lines_of chip)
+unfolding lines_of
+printable chip =
+    All-append IsPrintable (power_lines chip) (turn_lines (powered chip).boot (pins_of chip) (owned (powered chip))) (either chip.powered [] (On ∷ []) none (one On tt))
+    (turn_lines-IsPrintable (powered chip).boot (pins_of chip) (owned (powered chip)))

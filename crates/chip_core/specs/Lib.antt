@@ -1,0 +1,10 @@
+pub mod FlatBus
+pub mod Kinds
+pub mod Instruction
+pub mod Boot
+pub mod State
+pub mod FirstState
+pub mod Pins
+pub mod Tick
+pub mod Lines
+pub mod Inside

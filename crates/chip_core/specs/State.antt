@@ -1,0 +1,17 @@
+-- The chip as a record of plain data.
+use Rattle.std.specs.Prelude.{ℕ, Bool, List, Option}
+use Rattle.chip_words.specs.BusPart.{BusPart}
+use Rattle.chip_core.specs.declared.boots.Place.{Place}
+
+pub record State : Type 0 where
+  pub bus : BusPart
+  pub registers : List ℕ
+  -- how many more ticks the processor is busy with what it did
+  pub busy : ℕ
+  pub powered : Bool
+  -- the next step of the boot, while it isn't done
+  pub boot : Option Place
+  -- the processor stands still, since there was no reset vector
+  pub dead : Bool
+  -- the number of the next tick
+  pub tick : ℕ

@@ -1,0 +1,93 @@
+-- What one tick does to the chip: power, and then the owner of the bus.
+use Rattle.std.specs.Prelude.{ℕ, ◌+◌, ◌-◌, ◌==◌, nat_lt, true, false, if◌then◌else◌, [], Option, Some, None, slice_index}
+use Rattle.chip_words.specs.declared.sizes.Size.TheVariants.{Word}
+use Rattle.chip_words.specs.declared.accesses.Agent.TheVariants.{Cpu, Boot}
+use Rattle.chip_words.specs.Memory.{loaded}
+use Rattle.chip_words.specs.Registers.{no_registers, with_register}
+use Rattle.chip_words.specs.Units.{units_at_reset}
+use Rattle.chip_words.specs.BusPart.{BusPart}
+use Rattle.chip_words.specs.Script.{Ran, run}
+use Rattle.chip_core.specs.declared.boots.Place.{Place}
+use Rattle.chip_core.specs.declared.boots.Place.TheVariants.{Start}
+use Rattle.chip_core.specs.declared.boots.BootStep.{BootStep}
+use Rattle.chip_core.specs.declared.boots.BootStep.TheVariants.{Going, Ended, NotBuilt as BootNotBuilt}
+use Rattle.chip_core.specs.declared.instructions.Outcome.{Outcome}
+use Rattle.chip_core.specs.declared.instructions.Outcome.TheVariants.{Cycles, NotBuilt}
+use Rattle.chip_core.specs.Instruction.{Stepped, instruction}
+use Rattle.chip_core.specs.Boot.{boot_step}
+use Rattle.chip_core.specs.State.{State}
+
+-- a BOR: all registers are 0, the peripherals have their values of reset, and a boot starts
+abbrev pub after_bor : State → State
+after_bor chip = record chip {
+  bus = record (chip.bus) { units = units_at_reset (chip.bus.units) };
+  registers = no_registers;
+  busy = 0;
+  boot = Some Start;
+  dead = false;
+}
+
+-- power is on in each tick; where it comes on, the chip is as after a BOR
+unfoldable pub powered : State → State
+powered chip = if chip.powered then chip else record (after_bor chip) { powered = true }
+
+-- what isn't built yet ends the run
+abbrev pub stopped : State → State
+stopped chip = record chip { bus = record (chip.bus) { stop = true } }
+
+-- the bus part between steps, of which no access is listed
+abbrev pub step_ended : BusPart → BusPart
+step_ended bus = record bus { accesses = [] }
+
+abbrev pub reset_vector : State → ℕ
+reset_vector chip = loaded (chip.bus.memory) 0xFFFE Word
+
+-- PC is the reset vector; a vector that was never written leaves the processor dead
+abbrev pub at_reset_vector : State → State
+at_reset_vector chip = record chip {
+  registers = with_register chip.registers 0 (reset_vector chip);
+  dead = reset_vector chip == 0xFFFF;
+}
+
+-- what a boot step leads to
+abbrev pub after_boot_step : BootStep → State → State
+after_boot_step (Going place) chip = record chip { boot = Some place }
+after_boot_step Ended chip = record (at_reset_vector chip) { boot = None }
+after_boot_step BootNotBuilt chip = stopped chip
+
+abbrev pub boot_turn_from : Ran BootStep → State → State
+boot_turn_from ran chip = after_boot_step ran.value (record chip { bus = step_ended ran.chip })
+
+unfoldable pub boot_turn : Place → State → State
+boot_turn place chip = boot_turn_from (run Boot (boot_step place) chip.bus) chip
+
+-- the processor is busy with an instruction for its cycles, of which the first is the tick that made it
+abbrev pub after_instruction : Outcome → State → State
+after_instruction (Cycles cycles) chip = record chip { busy = cycles - 1 }
+after_instruction NotBuilt chip = stopped chip
+
+abbrev pub instructed_from : Ran Stepped → State → State
+instructed_from ran chip =
+    after_instruction (ran.value).outcome (record chip { bus = step_ended ran.chip; registers = (ran.value).registers })
+
+unfoldable pub instructed : State → State
+instructed chip = instructed_from (run (Cpu (slice_index chip.registers 0)) (instruction chip.registers) chip.bus) chip
+
+-- the processor's turn
+unfoldable pub processor_turn : State → State
+processor_turn chip =
+    if nat_lt 0 chip.busy then record chip { busy = chip.busy - 1 }
+    else if chip.dead then chip
+    else instructed chip
+
+abbrev pub owner_turn : Option Place → State → State
+owner_turn (Some place) chip = boot_turn place chip
+owner_turn None chip = processor_turn chip
+
+-- one owner has the bus: the boot until it is done, and then the processor
+unfoldable pub owned : State → State
+owned chip = owner_turn chip.boot chip
+
+-- the chip after its next tick
+unfoldable pub ticked : State → State
+ticked chip = record (owned (powered chip)) { tick = chip.tick + 1 }

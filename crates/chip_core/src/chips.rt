@@ -1,0 +1,214 @@
+ghost use Rattle.std.specs.Prelude.{◌≡◌, ◌+◌, ◌<◌, ◌≤◌, ◌++◌, [], All, None, IfOk};
+ghost use Rattle.trace_print.specs.Lines.{IsPrintable};
+ghost use Rattle.chip_core.specs.FirstState.{first_state};
+ghost use Rattle.arrayvec.specs.ArrayVec.{array_vec_len};
+ghost use Rattle.chip_core.specs.Pins.{pins_of};
+ghost use Rattle.chip_core.specs.Tick.{at_reset_vector, boot_turn, instructed, owned, powered, processor_turn, ticked};
+ghost use Rattle.chip_core.specs.Lines.{lines_of, power_lines, boot_lines, turn_lines};
+
+use crate::Lines;
+use crate::boots::{self, BootStep, Place};
+use crate::flat_bus::Fabric;
+use crate::instructions::{self, Outcome};
+use crate::pins::Pins;
+use chip_words::{NoMemory, Regs};
+use elf_image::Image;
+use std::alloc::Global;
+use std::marker::Model;
+use trace_print::TraceItem;
+
+/// The chip: the processor and its bus between two ticks.
+///
+/// Contracts see the record `State`.
+#[derive(Drop)]
+pub struct Chip {
+    fabric: Fabric,
+    regs: Regs,
+    busy: u32,
+    powered: bool,
+    boot: Option<Place>,
+    dead: bool,
+    tick: u32,
+}
+
+impl Model for Chip {
+    ghost use Rattle.chip_core.specs.State.{State};
+
+    ghost Value = { State };
+
+    ghost use Rattle.chip_core.specs.Inside.{IsBetweenSteps, state_of};
+
+    ghost view = { state_of };
+
+    ghost invariant = { IsBetweenSteps };
+}
+
+impl Chip {
+    /// The chip before its first tick: power is off, and memory is as the image gives it.
+    pub fn build(alloc: Global, image: &Image<'_>) -> Result<Chip, NoMemory>
+        ensures { IfOk result (λ chip. chip ≡ first_state image.now) }
+    {
+        let fabric = match Fabric::build(alloc, image) {
+            Ok(fabric) => fabric,
+            Err(e) => return Err(e),
+        };
+        Ok(Chip {
+            fabric,
+            regs: Regs::zero(),
+            busy: 0,
+            powered: false,
+            boot: Some(Place::Start),
+            dead: false,
+            tick: 0,
+        })
+    }
+
+    /// The pins, as the outside sees them.
+    #[tactic(auto, unfolding(crate::specs::Pins::pins_of))]
+    fn pins(&self) -> Pins
+        ensures { result ≡ pins_of self.now }
+    {
+        let driven = if self.powered {
+            self.fabric.outputs()
+        } else {
+            0
+        };
+        Pins {
+            driven,
+            high: self.fabric.out() & driven,
+        }
+    }
+
+    /// Does the next tick, and puts its lines in place of those in `lines`.
+    ///
+    /// Where the chip would do something that isn't built, the lines end with STOP, and `is_stopped`
+    /// says so.
+    #[tactic(auto, using(crate::proofs::Printable::printable), unfolding(crate::specs::Tick::ticked, crate::specs::Lines::lines_of))]
+    pub fn tick(&mut self, lines: &mut Lines)
+        requires { (self.old).tick < 10000000 }
+        ensures chip { self.new ≡ ticked self.old }
+        ensures lines { lines.new.items ≡ lines_of self.old }
+        ensures printable { All IsPrintable (lines_of self.old) }
+    {
+        lines.clear();
+        let next = self.tick + 1;
+        let pins = self.pins();
+        self.power(lines);
+        let place = self.boot;
+        self.own();
+        self.tell(place, &pins, lines);
+        self.tick = next;
+    }
+
+    /// Says whether the chip met something that isn't built.
+    pub fn is_stopped(&self) -> bool
+        ensures { result ≡ (self.now).bus.stop }
+    {
+        self.fabric.is_stopped()
+    }
+
+    /// Adds what the owner's turn shows, from the place of the boot and the pins before it.
+    fn tell(&self, place: Option<Place>, before: &Pins, lines: &mut Lines)
+        requires { array_vec_len lines.old ≤ 10 }
+        ensures { lines.new.items ≡ lines.old.items ++ turn_lines place before.now self.now }
+    {
+        if self.is_stopped() {
+            lines.push(TraceItem::Stop);
+        } else {
+            self.tell_boot(place, lines);
+            before.tell_changes(&self.pins(), lines);
+        }
+    }
+
+    fn tell_boot(&self, place: Option<Place>, lines: &mut Lines)
+        requires { array_vec_len lines.old ≤ 10 }
+        ensures lines { lines.new.items ≡ lines.old.items ++ boot_lines place self.now }
+        ensures count { array_vec_len lines.new ≤ array_vec_len lines.old + 2 }
+    {
+        if let Some(Place::Done) = place {
+            lines.push(TraceItem::Boot(0, 0, 0));
+            if self.dead {
+                lines.push(TraceItem::Dead);
+            }
+        }
+    }
+
+    /// Power: it is on in each tick, and where it comes on, the chip is as after a BOR.
+    #[tactic(auto, unfolding(crate::specs::Tick::powered))]
+    fn power(&mut self, lines: &mut Lines)
+        requires { lines.old.items ≡ [] }
+        ensures chip { self.new ≡ powered self.old }
+        ensures lines { lines.new.items ≡ power_lines self.old }
+        ensures count { array_vec_len lines.new ≤ 1 }
+    {
+        if !self.powered {
+            self.fabric.reset();
+            self.regs = Regs::zero();
+            self.busy = 0;
+            self.boot = Some(Place::Start);
+            self.dead = false;
+            self.powered = true;
+            lines.push(TraceItem::On);
+        }
+    }
+
+    /// The turn of the bus owner: the boot until it is done, and then the processor.
+    #[tactic(auto, unfolding(crate::specs::Tick::owned))]
+    fn own(&mut self)
+        ensures chip { self.new ≡ owned self.old }
+    {
+        match self.boot {
+            Some(place) => self.step_boot(place),
+            None => self.turn(),
+        }
+    }
+
+    /// One step of the boot.
+    #[tactic(auto, unfolding(crate::specs::Tick::boot_turn))]
+    fn step_boot(&mut self, place: Place)
+        ensures { self.new ≡ boot_turn place self.old }
+    {
+        let next = boots::step(place, &mut self.fabric);
+        self.fabric.end_step();
+        match next {
+            BootStep::Going(place) => self.boot = Some(place),
+            BootStep::Ended => self.start(),
+            BootStep::NotBuilt => self.fabric.stop(),
+        }
+    }
+
+    /// Ends the boot: PC is the reset vector, and where there is none the processor is dead.
+    fn start(&mut self)
+        ensures { self.new ≡ record (at_reset_vector self.old) { boot = None } }
+    {
+        let vector = self.fabric.reset_vector();
+        self.regs.set(0, vector);
+        self.dead = vector == 0xFFFF;
+        self.boot = None;
+    }
+
+    /// The processor's turn.
+    #[tactic(auto, unfolding(crate::specs::Tick::processor_turn))]
+    fn turn(&mut self)
+        ensures { self.new ≡ processor_turn self.old }
+    {
+        if self.busy > 0 {
+            self.busy -= 1;
+        } else if !self.dead {
+            self.instruct();
+        }
+    }
+
+    /// Executes one instruction.
+    #[tactic(auto, unfolding(crate::specs::Tick::instructed))]
+    fn instruct(&mut self)
+        ensures { self.new ≡ instructed self.old }
+    {
+        let outcome = instructions::step(&mut self.regs, &mut self.fabric);
+        self.fabric.end_step();
+        match outcome {
+            Outcome::Cycles(cycles) => self.busy = cycles.saturating_sub(1),
+            Outcome::NotBuilt => self.fabric.stop(),
+        }
+    }
+}

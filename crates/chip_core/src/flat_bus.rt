@@ -1,0 +1,418 @@
+ghost use Rattle.std.specs.Prelude.{◌≡◌, ◌+◌, ◌-◌, ◌%◌, ◌<◌, ◌≤◌, [], ◌++◌, true, if◌then◌else◌, IfOk, length, replicate, vec_len};
+ghost use Rattle.chip_words.specs.Bits.{part_of, with_part};
+ghost use Rattle.chip_words.specs.Sizes.{IsByteOrWord, bytes_of, span};
+ghost use Rattle.chip_words.specs.BusPart.{HasRoom};
+ghost use Rattle.chip_words.specs.Map.{region_at, aligned as aligned_at};
+ghost use Rattle.chip_words.specs.Memory.{loaded, memory_size as memory_size_of, stored};
+ghost use Rattle.chip_core.specs.FirstState.{first_bus, first_memory};
+ghost use Rattle.chip_core.specs.Kinds.{is_write};
+ghost use Rattle.chip_words.specs.Units.{is_built as is_built_at, periph, units_at_reset, with_word, word_of};
+ghost use Rattle.chip_words.specs.Access.{access, blank as blank_of, entry_of, granted, is_beyond_boot as is_beyond_boot_of, is_low_start as is_low_start_of, made, ones as ones_of, replied};
+
+use crate::port_pins::Ports;
+use crate::system::Sys;
+use arrayvec::ArrayVec;
+use chip_words::{Access, Agent, Bus, Kind, NoMemory, Size};
+use elf_image::Image;
+use memory_map::{MAIN_END, Region, aligned, is_fram, region_of};
+use std::alloc::Global;
+
+/// The bus part of the chip over one flat memory.
+#[derive(Drop)]
+pub struct Fabric {
+    memory: Vec<u8>,
+    sys: Sys,
+    ports: Ports,
+    accesses: ArrayVec<Access, 64>,
+    stop: bool,
+    ghost whole: { vec_len memory ≡ 0x14000 },
+}
+
+/// How many addresses memory has a place for.
+#[tactic(auto, unfolding(chip_words::specs::Memory::memory_size))]
+fn memory_size() -> usize
+    ensures size { result ≡ memory_size_of }
+    ensures number { result ≡ 0x14000 }
+{
+    MAIN_END as usize
+}
+
+/// A memory that is 0 all over.
+fn blank_memory(alloc: Global) -> Result<Vec<u8>, NoMemory>
+    ensures blank { IfOk result (λ memory. memory.items ≡ replicate memory_size_of 0) }
+    ensures whole { IfOk result (λ memory. vec_len memory ≡ 0x14000) }
+{
+    match vec![in alloc; 0; memory_size()] {
+        Ok(memory) => Ok(memory),
+        Err(_) => Err(NoMemory),
+    }
+}
+
+/// Memory as an image loads it, with SRAM 0.
+fn load_memory(alloc: Global, image: &Image<'_>) -> Result<Vec<u8>, NoMemory>
+    ensures memory { IfOk result (λ memory. memory.items ≡ first_memory image.now) }
+    ensures whole { IfOk result (λ memory. vec_len memory ≡ 0x14000) }
+{
+    match blank_memory(alloc) {
+        Ok(blank) => {
+            let mut memory = blank;
+            image.load(memory.as_mut_slice());
+            Ok(memory)
+        }
+        Err(e) => Err(e),
+    }
+}
+
+/// The part of a word that an access of a width reads at an address.
+fn part(size: Size, at: u32, word: u16) -> u32
+    requires { IsByteOrWord size }
+    ensures value { result ≡ part_of size at word }
+    ensures small { result < span size }
+{
+    match size {
+        Size::Byte => {
+            if at % 2 == 0 {
+                (word & 0xFF) as u32
+            } else {
+                (word >> 8) as u32
+            }
+        }
+        Size::Word | Size::Addr => word as u32,
+    }
+}
+
+/// A word after an access of a width wrote its part of it.
+fn word_with_part(size: Size, at: u32, word: u16, value: u16) -> u16
+    requires width { IsByteOrWord size }
+    requires fits { value < span size }
+    ensures { result ≡ with_part size at word value }
+{
+    match size {
+        Size::Byte => {
+            if at % 2 == 0 {
+                (word >> 8) * 0x100 + value
+            } else {
+                value * 0x100 + (word & 0xFF)
+            }
+        }
+        Size::Word | Size::Addr => value,
+    }
+}
+
+/// A value in memory.
+#[tactic(auto, unfolding(chip_words::specs::Memory::loaded))]
+fn load(memory: &[u8], at: usize, size: Size) -> u32
+    requires width { IsByteOrWord size }
+    requires place { at + bytes_of size ≤ length memory.now }
+    ensures value { result ≡ loaded memory.now at size }
+    ensures small { result < span size }
+{
+    match size {
+        Size::Byte => memory[at] as u32,
+        Size::Word | Size::Addr => memory[at] as u32 + 0x100 * memory[at + 1] as u32,
+    }
+}
+
+/// Writes a value to memory.
+#[tactic(auto, unfolding(chip_words::specs::Memory::stored))]
+fn store(memory: &mut [u8], at: usize, size: Size, value: u32)
+    requires width { IsByteOrWord size }
+    requires place { at + bytes_of size ≤ length memory.old }
+    requires fits { value < span size }
+    ensures { memory.new ≡ stored memory.old at size value }
+{
+    match size {
+        Size::Byte => memory[at] = (value & 0xFF) as u8,
+        Size::Word | Size::Addr => {
+            memory[at] = (value & 0xFF) as u8;
+            memory[at + 1] = ((value >> 8) & 0xFF) as u8;
+        }
+    }
+}
+
+/// What is read where nothing answers.
+fn blank(size: Size) -> u32
+    requires { IsByteOrWord size }
+    ensures value { result ≡ blank_of size }
+    ensures small { result < span size }
+{
+    match size {
+        Size::Byte => 0xFF,
+        Size::Word | Size::Addr => 0x3FFF,
+    }
+}
+
+/// What is read of the device descriptor.
+fn ones(size: Size) -> u32
+    requires { IsByteOrWord size }
+    ensures value { result ≡ ones_of size }
+    ensures small { result < span size }
+{
+    match size {
+        Size::Byte => 0xFF,
+        Size::Word | Size::Addr => 0xFFFF,
+    }
+}
+
+/// Says whether the processor takes the first word of its instruction from the peripherals.
+fn is_low_start(who: Agent, kind: Kind, at: u32) -> bool
+    ensures { result ≡ is_low_start_of who kind at }
+{
+    match (who, kind) {
+        (Agent::Cpu(ia), Kind::Fetch) => at == ia && at < 0x1000,
+        _ => false,
+    }
+}
+
+/// Says whether the boot reads beyond FRAM.
+fn is_beyond_boot(who: Agent, kind: Kind, at: u32) -> bool
+    requires { at < 0x100000 }
+    ensures { result ≡ is_beyond_boot_of who kind at }
+{
+    match (who, kind) {
+        (Agent::Boot, Kind::Read) => !is_fram(at),
+        _ => false,
+    }
+}
+
+impl Fabric {
+    ghost use Rattle.chip_core.specs.FlatBus.{bus_part_of};
+
+    /// The bus part before the first tick: memory as the image gives it, and the values of a BOR.
+    pub fn build(alloc: Global, image: &Image<'_>) -> Result<Fabric, NoMemory>
+        ensures { IfOk result (λ fabric. bus_part_of fabric ≡ first_bus image.now) }
+    {
+        let memory = match load_memory(alloc, image) {
+            Ok(memory) => memory,
+            Err(e) => return Err(e),
+        };
+        Ok(Fabric {
+            memory,
+            sys: Sys::at_reset(),
+            ports: Ports::new(),
+            accesses: ArrayVec::new(),
+            stop: false,
+        })
+    }
+
+    /// Sets the peripherals to their values after a BOR.
+    pub fn reset(&mut self)
+        ensures { bus_part_of self.new ≡ record (bus_part_of self.old) { units = units_at_reset (bus_part_of self.old).units } }
+    {
+        self.sys = Sys::at_reset();
+        self.ports.reset();
+    }
+
+    /// Ends a step: its accesses are no longer listed.
+    pub fn end_step(&mut self)
+        ensures { bus_part_of self.new ≡ record (bus_part_of self.old) { accesses = [] } }
+    {
+        self.accesses.clear();
+    }
+
+    /// Notes that the chip met something that isn't built.
+    pub fn stop(&mut self)
+        ensures { bus_part_of self.new ≡ record (bus_part_of self.old) { stop = true } }
+    {
+        self.stop = true;
+    }
+
+    /// Says whether the chip met something that isn't built.
+    pub fn is_stopped(&self) -> bool
+        ensures { result ≡ (bus_part_of self.now).stop }
+    {
+        self.stop
+    }
+
+    /// The word at FFFEh, which is the reset vector. Loading it is no access.
+    pub fn reset_vector(&self) -> u32
+        ensures value { result ≡ loaded (bus_part_of self.now).memory 0xFFFE Size.Word }
+        ensures small { result < 0x10000 }
+    {
+        load(self.memory.as_slice(), 0xFFFE, Size::Word)
+    }
+
+    /// OUT of P1 and P2.
+    pub fn out(&self) -> u16
+        ensures { result ≡ ((bus_part_of self.now).units.ports).out }
+    {
+        self.ports.out()
+    }
+
+    /// The pins of P1 and P2 that are outputs and aren't locked.
+    pub fn outputs(&self) -> u16
+        ensures { result ≡ (if ((bus_part_of self.now).units.sys).locked then 0 else ((bus_part_of self.now).units.ports).direction) }
+    {
+        if self.sys.is_locked() {
+            0
+        } else {
+            self.ports.direction()
+        }
+    }
+
+    /// The word of the peripheral register at an even address.
+    fn register(&self, at: u32) -> u16
+        ensures { result ≡ word_of (bus_part_of self.now).units at }
+    {
+        if at < 0x0200 {
+            self.sys.word(at)
+        } else {
+            self.ports.word(at, self.sys.is_locked())
+        }
+    }
+
+    /// Writes the word of the peripheral register at an even address.
+    fn set_register(&mut self, at: u32, word: u16)
+        ensures { bus_part_of self.new ≡ record (bus_part_of self.old) { units = with_word (bus_part_of self.old).units at word } }
+    {
+        self.sys.set_word(at, word);
+        self.ports.set_word(at, word);
+    }
+
+    /// An access to a peripheral register.
+    #[tactic(auto, unfolding(chip_words::specs::Units::periph))]
+    fn ask(&mut self, kind: Kind, at: u32, size: Size, value: u32) -> u32
+        requires width { IsByteOrWord size }
+        requires fits { value < span size }
+        ensures small { result < span size }
+        ensures answer { result ≡ (replied (periph (bus_part_of self.old).units kind at size value) (bus_part_of self.old)).answer }
+        ensures chip { bus_part_of self.new ≡ (replied (periph (bus_part_of self.old).units kind at size value) (bus_part_of self.old)).chip }
+    {
+        let even = at & !1;
+        let word = self.register(even);
+        self.stop = self.stop || !is_built(even);
+        match kind {
+            Kind::Write => {
+                self.set_register(even, word_with_part(size, at, word, value as u16));
+                value
+            }
+            Kind::Fetch | Kind::Read => part(size, at, word),
+        }
+    }
+
+    /// What an access does by the region of its address, which is even for a word.
+    fn grant(&mut self, kind: Kind, at: u32, size: Size, value: u32) -> u32
+        requires place { at < 0x100000 }
+        requires even { aligned_at size at ≡ at }
+        requires width { IsByteOrWord size }
+        requires fits { value < span size }
+        ensures small { result < span size }
+        ensures answer { result ≡ (granted (region_at at) kind at size value (bus_part_of self.old)).answer }
+        ensures chip { bus_part_of self.new ≡ (granted (region_at at) kind at size value (bus_part_of self.old)).chip }
+    {
+        match region_of(at) {
+            Region::Periph => self.ask(kind, at, size, value),
+            Region::Descriptor => read_only(kind, value, ones(size)),
+            Region::Vacant => read_only(kind, value, blank(size)),
+            Region::Info | Region::Sram | Region::Main => self.reach(kind, at, size, value),
+        }
+    }
+
+    /// An access to memory.
+    fn reach(&mut self, kind: Kind, at: u32, size: Size, value: u32) -> u32
+        requires place { at < 0x14000 }
+        requires even { aligned_at size at ≡ at }
+        requires width { IsByteOrWord size }
+        requires fits { value < span size }
+        ensures small { result < span size }
+        ensures answer { result ≡ (granted Region.Main kind at size value (bus_part_of self.old)).answer }
+        ensures chip { bus_part_of self.new ≡ (granted Region.Main kind at size value (bus_part_of self.old)).chip }
+    {
+        match kind {
+            Kind::Write => {
+                store(self.memory.as_mut_slice(), at as usize, size, value);
+                value
+            }
+            Kind::Fetch | Kind::Read => load(self.memory.as_slice(), at as usize, size),
+        }
+    }
+
+    /// What an access at an aligned address does.
+    fn make(&mut self, who: Agent, kind: Kind, at: u32, size: Size, value: u32) -> u32
+        requires place { at < 0x100000 }
+        requires even { aligned_at size at ≡ at }
+        requires width { IsByteOrWord size }
+        requires fits { value < span size }
+        ensures small { result < span size }
+        ensures answer { result ≡ (made who kind at size value (bus_part_of self.old)).answer }
+        ensures chip { bus_part_of self.new ≡ (made who kind at size value (bus_part_of self.old)).chip }
+    {
+        if is_low_start(who, kind, at) {
+            self.stop = true;
+            return 0;
+        }
+        if is_beyond_boot(who, kind, at) {
+            return blank(size);
+        }
+        self.grant(kind, at, size, value)
+    }
+
+    /// Adds an access to the step's list, but for the debugger's.
+    fn list(&mut self, who: Agent, kind: Kind, at: u32, size: Size, value: u32)
+        requires room { HasRoom who (bus_part_of self.old) }
+        ensures { bus_part_of self.new ≡ record (bus_part_of self.old) { accesses = (bus_part_of self.old).accesses ++ entry_of who kind at size value } }
+    {
+        match who {
+            Agent::Debug => {}
+            Agent::Cpu(_) | Agent::Entry | Agent::Dma | Agent::Boot => self.accesses.push(Access {
+                kind,
+                at,
+                size,
+                value,
+            }),
+        }
+    }
+
+    /// One access.
+    #[tactic(auto, unfolding(chip_words::specs::Access::access))]
+    fn access(&mut self, who: Agent, kind: Kind, at: u32, size: Size, value: u32) -> u32
+        requires place { at < 0x100000 }
+        requires width { IsByteOrWord size }
+        requires fits { value < span size }
+        requires room { HasRoom who (bus_part_of self.old) }
+        ensures small { result < span size }
+        ensures answer { result ≡ (access who kind at size value (bus_part_of self.old)).answer }
+        ensures chip { bus_part_of self.new ≡ (access who kind at size value (bus_part_of self.old)).chip }
+        ensures count { length (bus_part_of self.new).accesses ≤ length (bus_part_of self.old).accesses + 1 }
+    {
+        let at = aligned(at, size);
+        let answer = self.make(who, kind, at, size, value);
+        self.list(who, kind, at, size, answer);
+        answer
+    }
+}
+
+/// Says whether the register at an even address is built.
+fn is_built(at: u32) -> bool
+    ensures { result ≡ is_built_at at }
+{
+    matches!(at, 0x0130 | 0x0200 | 0x0202 | 0x0204)
+}
+
+/// What an access answers where nothing can be written.
+fn read_only(kind: Kind, value: u32, read: u32) -> u32
+    ensures { result ≡ (if is_write kind then value else read) }
+{
+    match kind {
+        Kind::Write => value,
+        Kind::Fetch | Kind::Read => read,
+    }
+}
+
+impl Bus for Fabric {
+    ghost use Rattle.chip_core.specs.FlatBus.{bus_part_of};
+
+    ghost chip = { bus_part_of };
+
+    fn fetch(&mut self, ia: u32, at: u32) -> u16 {
+        self.access(Agent::Cpu(ia), Kind::Fetch, at, Size::Word, 0) as u16
+    }
+
+    fn read(&mut self, who: Agent, at: u32, size: Size) -> u32 {
+        self.access(who, Kind::Read, at, size, 0)
+    }
+
+    fn write(&mut self, who: Agent, at: u32, size: Size, value: u32) {
+        self.access(who, Kind::Write, at, size, value);
+    }
+}

@@ -1,0 +1,18 @@
+//! The chip: what one tick does to it, and the lines of the trace that the tick gives.
+#![tactic(auto)]
+
+use arrayvec::ArrayVec;
+use trace_print::TraceItem;
+
+mod boots;
+mod chips;
+mod flat_bus;
+mod instructions;
+mod pins;
+mod port_pins;
+mod system;
+
+pub use chips::Chip;
+
+/// The lines of one tick, in their order.
+pub type Lines = ArrayVec<TraceItem, 32>;
