@@ -8,6 +8,8 @@ ghost use Rattle.cycle_table.specs.Cycles.{IsInstruction, cycles_of, instruction
 mod addresses;
 mod operands;
 mod places;
+#[cfg(test)]
+mod tests;
 
 use addresses::{addr_cycles, calla_cycles, many_cycles, move_cycles};
 use cpux_decode::Decoded;

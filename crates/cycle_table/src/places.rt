@@ -8,11 +8,7 @@ use cpux_decode::Place;
 pub fn is_memory(place: Place) -> bool
     ensures { result ≡ is_memory_of place }
 {
-    match place {
-        Place::Near(..) | Place::Far(..) | Place::Absolute(_) | Place::At(_) | Place::AtPlus(_) =>
-            true,
-        Place::Reg(_) | Place::Const(_) | Place::Imm(_) => false,
-    }
+    !matches!(place, Place::Reg(_) | Place::Const(_) | Place::Imm(_))
 }
 
 /// Says whether a place is PC.
