@@ -147,17 +147,17 @@ load_cost (Absolute at) = 4
 load_cost place = address_cost place
 
 -- two more where PC is written
-abbrev pub jump_cost : Bool → ℕ
-jump_cost writes_pc = if writes_pc then 2 else 0
+abbrev pub pc_write_cost : Bool → ℕ
+pc_write_cost writes_pc = if writes_pc then 2 else 0
 
 -- MOVA
 unfoldable pub move_cycles : Place → Place → ℕ
-move_cycles from to = if is_memory to then 4 else load_cost from + jump_cost (is_pc to)
+move_cycles from to = if is_memory to then 4 else load_cost from + pc_write_cost (is_pc to)
 
 -- CMPA, ADDA and SUBA. CMPA writes no register.
 unfoldable pub addr_cycles : OpA → Place → ℕ → ℕ
 addr_cycles address.Cmp from to = address_cost from
-addr_cycles op from to = address_cost from + jump_cost (to == 0)
+addr_cycles op from to = address_cost from + pc_write_cost (to == 0)
 
 -- PUSHM and POPM: each register is a word, or two
 unfoldable pub many_cycles : Size → ℕ → ℕ

@@ -5,7 +5,7 @@ use crate::places::{is_memory, is_pc};
 use cpux_decode::{OpA, Place, Size};
 
 /// What a write of PC adds to an address instruction.
-const JUMP_COST: u32 = 2;
+const PC_WRITE_COST: u32 = 2;
 
 /// The cycles of MOVA.
 #[tactic(auto, unfolding(crate::specs::Cycles::move_cycles))]
@@ -17,7 +17,7 @@ pub fn move_cycles(from: Place, to: Place) -> u32
     if is_memory(to) {
         4
     } else if is_pc(to) {
-        load_cost(from) + JUMP_COST
+        load_cost(from) + PC_WRITE_COST
     } else {
         load_cost(from)
     }
@@ -55,7 +55,7 @@ pub fn addr_cycles(op: OpA, from: Place, to: u8) -> u32
     ensures most { result ≤ 4 }
 {
     match op {
-        OpA::Add | OpA::Sub if to == 0 => address_cost(from) + JUMP_COST,
+        OpA::Add | OpA::Sub if to == 0 => address_cost(from) + PC_WRITE_COST,
         _ => address_cost(from),
     }
 }
