@@ -1,5 +1,7 @@
 //! Instructions whose cycles were added up by hand from the prose of the profile: the comments give the parts.
 
+ghost use Rattle.cycle_table.specs.Cycles.{IsInstruction};
+
 use super::*;
 use cpux_decode::Place::{Absolute, At, AtPlus, Const, Far, Imm, Near, Reg};
 use cpux_decode::Size::{Addr, Byte, Word};
