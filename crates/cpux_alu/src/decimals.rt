@@ -1,5 +1,4 @@
-ghost use Rattle.std.specs.Prelude.{◌≡◌, ◌+◌, ◌^◌, ◌<◌, ◌≤◌, nat_le};
-ghost use Rattle.chip_words.specs.Bits.{bit_of};
+ghost use Rattle.std.specs.Prelude.{◌≡◌, ◌^◌, ◌<◌, ◌≤◌, nat_le};
 ghost use Rattle.chip_words.specs.Sizes.{span};
 ghost use Rattle.cpux_alu.specs.Decimals.{decimal_carry, decimal_effect, decimal_sum as decimal_sum_of, digit_of, digits_of, lowest_sum as lowest_sum_of};
 

@@ -1,4 +1,4 @@
-ghost use Rattle.std.specs.Prelude.{◌≡◌, ◌<◌, Option, None};
+ghost use Rattle.std.specs.Prelude.{◌≡◌, ◌<◌};
 ghost use Rattle.chip_words.specs.Sizes.{span};
 ghost use Rattle.cpux_alu.specs.Effects.{flag_bits, status_after, with_flags as with_flags_of, with_logic_flags as with_logic_flags_of, without_flags as without_flags_of};
 

@@ -4,7 +4,6 @@
 #![tactic(auto)]
 
 ghost use Rattle.std.specs.Prelude.{◌≡◌, ◌<◌, ◌≤◌};
-ghost use Rattle.chip_words.specs.Bits.{has_bit};
 ghost use Rattle.chip_words.specs.Sizes.{span};
 ghost use Rattle.cpux_alu.specs.Addresses.{near_address};
 ghost use Rattle.cpux_alu.specs.Operations.{GivesResult, addr_status, addr_value, one_effect, one_status, one_value, shift_status, shift_value, two_effect, two_status, two_value};
@@ -31,7 +30,8 @@ const CARRY: u16 = 1;
 
 /// The result of an operation of two operands, and the status register after it.
 ///
-/// CMP and BIT have a result too, which nobody writes.
+/// CMP and BIT have a result too, which their instructions don't write. An operation that takes a carry takes it from
+/// `sr`: where that is to be 0, clear it there, but for operations that leave the flags.
 #[tactic(auto, unfolding(crate::specs::Operations::two_status, crate::specs::Operations::two_value))]
 pub fn two(op: Op2, size: Size, src: u32, dst: u32, sr: u16) -> (u32, u16)
     ensures value { result.0 ≡ two_value op size src dst sr }
