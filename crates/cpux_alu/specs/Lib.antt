@@ -1,0 +1,7 @@
+pub mod Effects
+pub mod Sums
+pub mod Decimals
+pub mod Shifts
+pub mod Operations
+pub mod Addresses
+pub mod Laws

@@ -1,0 +1,23 @@
+ghost use Rattle.std.specs.Prelude.{◌≡◌, ◌<◌};
+ghost use Rattle.chip_words.specs.Sizes.{span};
+ghost use Rattle.cpux_alu.specs.Sums.{sum_effect};
+
+use crate::effects::{Effect, with_flags};
+use crate::widths::{is_negative, mask};
+use cpux_decode::Size;
+
+/// The sum of two numbers and a carry.
+#[tactic(auto, using(crate::proofs::Overflow::overflows_by_signs))]
+pub fn sum(size: Size, x: u32, y: u32, carry: bool) -> Effect
+    requires x { x < span size }
+    requires y { y < span size }
+    ensures effect { result ≡ sum_effect (span size) x y carry }
+    ensures range { result.value < span size }
+{
+    let total = x + y + carry as u32;
+    let value = total & mask(size);
+    let sign = is_negative(size, x);
+    // The exact sum leaves the range where two numbers of one sign give the other sign.
+    let overflow = sign == is_negative(size, y) && sign != is_negative(size, value);
+    with_flags(size, value, total > mask(size), overflow)
+}
