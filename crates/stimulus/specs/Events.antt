@@ -2,7 +2,7 @@
 use Rattle.std.specs.Prelude.{ℕ, ◌+◌, ◌-◌, ◌<◌, ◌≤◌, Bool, false, not, ◌&&◌, ◌==◌, nat_le, nat_lt, List, [], ◌∷◌, length, take, filter, filter_map, codes, Option, Some, None, if◌then◌else◌, option_map, option_and_then, slice_get}
 use Rattle.std.specs.List.{list_all}
 use Rattle.std.specs.Option.{option_map_or}
-use Rattle.toml.specs.Data.{Data, table, Members, as_str, get_member}
+use Rattle.toml.specs.Data.{Data, Members, as_str, as_table, get_member}
 use Rattle.stimulus.specs.declared.TheConstants.{EVENTS_PER_TICK}
 use Rattle.stimulus.specs.declared.events.Event.{Event}
 use Rattle.stimulus.specs.declared.events.EventAct.{EventAct}
@@ -66,22 +66,27 @@ event_with (Some tick) None level = None
 event_with (Some tick) (Some pin) None = None
 event_with (Some tick) (Some pin) (Some level) = Some (record { tick = tick; act = Pin pin.0 pin.1 level })
 
--- the event that a value is, if it is one of a bench with this end: a table with just the three keys
-unfoldable pub event_of : ℕ → Data → Option Event
-event_of end (table all) =
+-- the event that a table is, on a bench with this end: it has just the three keys
+unfoldable pub event_in : ℕ → Members → Option Event
+event_in end all =
     if has_key_beside event_keys all then None
     else event_with (tick_in end all) (pin_in all) (level_in all)
-event_of end _ = None
+
+abbrev pub event_of : ℕ → Data → Option Event
+event_of end value = option_and_then (event_in end) (as_table value)
 
 -- the events of one tick
 unfoldable pub on_tick : ℕ → List Event → List Event
 on_tick tick events = filter (λ event. event.tick == tick) events
 
--- an event may stand behind others: no tick of theirs is above its own, and its tick has room for one more
+-- no event comes after a tick
+unfoldable pub none_after : ℕ → List Event → Bool
+none_after tick events = list_all (λ event. nat_le event.tick tick) events
+
+-- an event may stand behind others: none of them comes after its tick, and its tick has room for one more
 unfoldable pub may_follow : List Event → Event → Bool
 may_follow before event =
-    list_all (λ earlier. nat_le earlier.tick event.tick) before
-    && nat_lt (length (on_tick event.tick before)) EVENTS_PER_TICK
+    none_after event.tick before && nat_lt (length (on_tick event.tick before)) EVENTS_PER_TICK
 
 -- the value at an index is no event, or one that may not stand behind those before it
 unfoldable pub breaks_rule : ℕ → List Data → ℕ → Bool

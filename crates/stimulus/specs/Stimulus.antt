@@ -1,6 +1,5 @@
 -- The bench that a TOML document is: what it has, and why a document is none.
-use Rattle.std.specs.Prelude.{ℕ, ◌<◌, ◌≤◌, ◌^◌, nat_lt, min, List, length, All, codes, filter_map, find, Option, Some, None, if◌then◌else◌, option_and_then, Result, Ok, Err, []}
-use Rattle.std.specs.Prelude.{◌∷◌}
+use Rattle.std.specs.Prelude.{ℕ, ◌<◌, ◌≤◌, ◌^◌, nat_lt, List, [], ◌∷◌, length, All, codes, filter_map, find, Option, Some, None, if◌then◌else◌, option_map, Result, Ok, Err}
 use Rattle.std.specs.List.{range_with_len}
 use Rattle.std.specs.List.Sorted.{IsNonDecreasingBy}
 use Rattle.toml.specs.Data.{Data, Members, as_array, get_member}
@@ -22,12 +21,12 @@ pub record Stimulus : Type 0 where
   pub fill : ℕ
   pub events : List Event
 
--- what holds of every bench
+-- what holds of every bench: ticks don't fall, few events share one, and each comes before the end
 pub record IsBench (bench : Stimulus) : Type 0 where
   pub some_ticks : 1 ≤ bench.end
   pub few_ticks : bench.end ≤ MAX_END
   pub fill_is_byte : bench.fill < 2 ^ 8
-  pub ticks_rise : IsNonDecreasingBy (λ event. event.tick) bench.events
+  pub in_order : IsNonDecreasingBy (λ event. event.tick) bench.events
   pub few_on_tick : (tick : ℕ) → length (on_tick tick bench.events) ≤ EVENTS_PER_TICK
   pub before_end : All (λ event. event.tick < bench.end) bench.events
   pub on_pins : All (λ event. IsPin event.act) bench.events
@@ -54,7 +53,7 @@ fill_in root = fill_at (get_member (codes "fill") root)
 -- the values of the array at `event`, which is empty where it isn't there
 abbrev pub values_at : Option Data → Option (List Data)
 values_at None = Some []
-values_at (Some value) = option_and_then (λ values. Some (values_of values)) (as_array value)
+values_at (Some value) = option_map values_of (as_array value)
 
 abbrev pub values_in : Members → Option (List Data)
 values_in root = values_at (get_member (codes "event") root)

@@ -1,8 +1,8 @@
-ghost use Rattle.std.specs.Prelude.{◌≡◌, ◌≤◌, ◌<◌, All, IfOk, [], length};
-ghost use Rattle.stimulus.specs.Events.{IsPin, on_tick};
+ghost use Rattle.std.specs.Prelude.{◌≡◌, ◌≤◌, ◌<◌, ◌++◌, ◌∷◌, [], All, IfOk, IsTrue, OnErr, OnOk, length};
+ghost use Rattle.stimulus.specs.Events.{IsPin, may_follow, on_tick};
 ghost use Rattle.stimulus.specs.Stimulus.{IsBench};
 
-use crate::events::Event;
+use crate::events::{Event, events_on_tick, none_after};
 use crate::{EVENTS_PER_TICK, MAX_END};
 use chip_words::NoMemory;
 use std::alloc::Global;
@@ -33,7 +33,7 @@ impl Bench {
     pub fn plain(alloc: Global, end: u32, fill: u8) -> Result<Self, NoMemory>
         requires some_ticks { 1 ≤ end }
         requires few_ticks { end ≤ MAX_END }
-        ensures { IfOk result (λ bench. bench ≡ record { end = end; fill = fill; events = [] }) }
+        ensures { result ≡ Ok (record { end = end; fill = fill; events = [] }) }
     {
         Ok(Bench {
             end,
@@ -42,7 +42,7 @@ impl Bench {
         })
     }
 
-    /// The number of ticks of the run: the ticks are 0 up to and without it.
+    /// The number of ticks of the run, which are 0 up to and without it.
     pub fn end(&self) -> u32
         ensures end { result ≡ self.now.end }
         ensures sound { IsBench self.now }
@@ -50,7 +50,7 @@ impl Bench {
         self.end
     }
 
-    /// The byte that RAM is filled with where power comes on.
+    /// The byte that RAM is filled with.
     pub fn fill(&self) -> u8
         ensures { result ≡ self.now.fill }
     {
@@ -63,8 +63,27 @@ impl Bench {
         ensures few { length result.now ≤ EVENTS_PER_TICK }
         ensures pins { All (λ event. IsPin event.act) result.now }
     {
-        let start = self.events.partition_point(|event| event.tick < tick);
-        let end = self.events.partition_point(|event| event.tick <= tick);
-        &self.events[start..end]
+        events_on_tick(&self.events, tick)
+    }
+
+    /// Says whether an event may stand behind those that the bench has.
+    pub(crate) fn may_add(&self, event: Event) -> bool
+        ensures { result ≡ may_follow self.now.events event }
+    {
+        none_after(&self.events, event.tick) && self.events(event.tick).len() < EVENTS_PER_TICK
+    }
+
+    /// Puts an event behind the others.
+    pub(crate) fn add(&mut self, event: Event) -> Result<(), NoMemory>
+        requires follows { IsTrue (may_follow self.old.events event) }
+        requires before_end { event.tick < self.old.end }
+        requires on_pin { IsPin event.act }
+        ensures ok { OnOk result (self.new ≡ record self.old { events = self.old.events ++ event ∷ [] }) }
+        ensures err { OnErr result (self.new ≡ self.old) }
+    {
+        match self.events.push(event) {
+            Ok(()) => Ok(()),
+            Err(_) => Err(NoMemory),
+        }
     }
 }

@@ -1,0 +1,3 @@
+pub mod OnTick
+pub mod Order
+pub mod Views
