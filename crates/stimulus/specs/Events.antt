@@ -1,7 +1,6 @@
 -- The events of a bench: what one of them is, and which rules hold among them.
-use Rattle.std.specs.Prelude.{ℕ, ◌+◌, ◌-◌, ◌<◌, ◌≤◌, Bool, false, not, ◌&&◌, ◌==◌, nat_le, nat_lt, List, [], ◌∷◌, length, take, filter, filter_map, codes, Option, Some, None, if◌then◌else◌, option_map, option_and_then, slice_get}
+use Rattle.std.specs.Prelude.{ℕ, ◌+◌, ◌-◌, ◌<◌, ◌≤◌, Bool, ◌&&◌, ◌==◌, nat_le, nat_lt, List, [], ◌∷◌, length, take, filter, filter_map, codes, Option, Some, None, if◌then◌else◌, is_none, option_map, option_and_then, slice_get}
 use Rattle.std.specs.List.{list_all}
-use Rattle.std.specs.Option.{option_map_or}
 use Rattle.toml.specs.Data.{Data, Members, as_str, as_table, get_member}
 use Rattle.stimulus.specs.declared.TheConstants.{EVENTS_PER_TICK}
 use Rattle.stimulus.specs.declared.events.Event.{Event}
@@ -88,7 +87,14 @@ unfoldable pub may_follow : List Event → Event → Bool
 may_follow before event =
     none_after event.tick before && nat_lt (length (on_tick event.tick before)) EVENTS_PER_TICK
 
--- the value at an index is no event, or one that may not stand behind those before it
+-- the event that a value is, if it is one that may stand behind others
+abbrev pub if_follows : List Event → Event → Option Event
+if_follows before event = if may_follow before event then Some event else None
+
+abbrev pub next_event : ℕ → List Event → Data → Option Event
+next_event end before value = option_and_then (if_follows before) (event_of end value)
+
+-- the value at an index is no event that may stand behind those before it
 unfoldable pub breaks_rule : ℕ → List Data → ℕ → Bool
 breaks_rule end values index =
-    not (option_map_or (may_follow (filter_map (event_of end) (take index values))) (option_and_then (event_of end) (slice_get values index)) false)
+    is_none (option_and_then (next_event end (filter_map (event_of end) (take index values))) (slice_get values index))

@@ -1,5 +1,5 @@
 -- The bench that a TOML document is: what it has, and why a document is none.
-use Rattle.std.specs.Prelude.{ℕ, ◌<◌, ◌≤◌, ◌^◌, nat_lt, List, [], ◌∷◌, length, All, codes, filter_map, find, Option, Some, None, if◌then◌else◌, option_map, Result, Ok, Err}
+use Rattle.std.specs.Prelude.{ℕ, ◌<◌, ◌≤◌, ◌^◌, ◌-◌, nat_lt, min, List, [], ◌∷◌, length, All, codes, filter_map, find, Option, Some, None, if◌then◌else◌, option_map, Result, Ok, Err}
 use Rattle.std.specs.List.{range_with_len}
 use Rattle.std.specs.List.Sorted.{IsNonDecreasingBy}
 use Rattle.toml.specs.Data.{Data, Members, as_array, get_member}
@@ -72,7 +72,8 @@ judged end fill values None = Ok (record { end = end; fill = fill; events = filt
 abbrev pub first_breaking : ℕ → List Data → Option ℕ
 first_breaking end values = find (breaks_rule end values) (range_with_len 0 (length values))
 
--- the bench of a root, or its first refusal in this order
+-- the bench of a root, or its first refusal in this order. A count of values that doesn't fit 32 bits is
+-- told as the greatest that does
 unfoldable pub bench_in : Members → Result Stimulus BenchRefused
 bench_in root =
     with_field field.Version (version_in root) (λ version.
@@ -80,7 +81,7 @@ bench_in root =
     with_field field.Fill (fill_in root) (λ fill.
     with_field field.Event (values_in root) (λ values.
     if has_key_beside root_keys root then Err (refused.Field field.Unknown)
-    else if nat_lt MAX_EVENTS (length values) then Err (refused.TooMany (length values))
+    else if nat_lt MAX_EVENTS (length values) then Err (refused.TooMany (min (length values) (2 ^ 32 - 1)))
     else judged end fill values (first_breaking end values)))))
 
 -- the bench of a document, which is none where the bytes are no TOML

@@ -1,14 +1,16 @@
-ghost use Rattle.std.specs.Prelude.{◌≡◌, ◌≢◌, ◌<◌, ◌≤◌, ℕ, IfOk, IfSome, false, filter_map, find, length, map, take};
+ghost use Rattle.std.specs.Prelude.{◌≡◌, ◌≢◌, ◌<◌, ◌≤◌, IfSome, IsTrue, length, map, option_map};
 ghost use Rattle.std.specs.Str.{IsUtf8};
-ghost use Rattle.stimulus.specs.Events.{IsPin, event_in, event_of, pin_in, pin_named};
-ghost use Rattle.stimulus.specs.Stimulus.{IsBench, bench_in, bench_of, first_breaking, judged, with_error};
+ghost use Rattle.stimulus.specs.Events.{IsPin, event_in, event_of, may_follow, next_event, pin_in, pin_named};
+ghost use Rattle.stimulus.specs.Stimulus.{bench_in, bench_of, fill_in, first_breaking, judged, values_in, with_error};
 ghost use Rattle.toml.specs.Parse.{parse_document};
 ghost use Rattle.toml.specs.View.{table_view, view};
 
 use crate::benches::Bench;
 use crate::events::{Event, EventAct};
-use crate::refusals::{BenchError, BenchRefused};
-use crate::trees::{has_key_beside, number_at, value_at};
+use crate::refusals::{BenchError, BenchRefused, RootField};
+use crate::trees::{has_key_beside, number_at, number_within, value_at};
+use crate::{MAX_END, MAX_EVENTS};
+use chip_words::NoMemory;
 use std::alloc::Global;
 use toml::{Table, Value};
 
@@ -71,14 +73,121 @@ fn event_of(value: &Value, end: u32) -> Option<Event>
     }
 }
 
+/// The event that a value is, if it is one that may stand behind those of a bench.
+fn next_event(bench: &Bench, value: &Value) -> Option<Event>
+    ensures event { result ≡ next_event bench.now.end bench.now.events (view value.now) }
+    ensures follows { IfSome result (λ event. IsTrue (may_follow bench.now.events event)) }
+    ensures before_end { IfSome result (λ event. event.tick < bench.now.end) }
+    ensures on_pin { IfSome result (λ event. IsPin event.act) }
+{
+    match event_of(value, bench.end()) {
+        Some(event) => {
+            if bench.may_add(event) {
+                Some(event)
+            } else {
+                None
+            }
+        }
+        None => None,
+    }
+}
+
+/// The bench with these events, or the refusal of the first value that breaks a rule.
+fn judge(alloc: Global, end: u32, fill: u8, values: &[Value]) -> Result<Bench, BenchError>
+    requires some_ticks { 1 ≤ end }
+    requires few_ticks { end ≤ MAX_END }
+    requires few_events { length values.now ≤ MAX_EVENTS }
+    ensures { (result ≢ Err BenchError.NoMemory) → result ≡ with_error (judged end fill (map view values.now) (first_breaking end (map view values.now))) }
+{
+    let mut bench = match Bench::plain(alloc, end, fill) {
+        Ok(bench) => bench,
+        Err(NoMemory) => return Err(BenchError::NoMemory),
+    };
+    for (index, value) in values.iter().enumerate() {
+        let Some(event) = next_event(&bench, value) else {
+            return Err(BenchError::Refused(BenchRefused::Event(index as u32)));
+        };
+        match bench.add(event) {
+            Ok(()) => {}
+            Err(NoMemory) => return Err(BenchError::NoMemory),
+        }
+    }
+    Ok(bench)
+}
+
+/// The number at `fill`, or what it is where it isn't there.
+fn fill_in(root: &Table) -> Option<u8>
+    ensures { result ≡ fill_in (table_view root.now) }
+{
+    match value_at(root, "fill") {
+        Some(value) => match number_within(value, 0, 255) {
+            Some(fill) => Some(fill as u8),
+            None => None,
+        },
+        None => Some(0),
+    }
+}
+
+/// The values of the array at `event`, or none where it isn't there.
+fn values_in(root: &Table) -> Option<&[Value]>
+    ensures { option_map (λ values. map view values.now) result ≡ values_in (table_view root.now) }
+{
+    match value_at(root, "event") {
+        Some(value) => match value.as_array() {
+            Some(values) => Some(values.as_slice()),
+            None => None,
+        },
+        None => Some(&[]),
+    }
+}
+
+/// The refusal of a field of the root.
+fn refuse(field: RootField) -> Result<Bench, BenchError>
+    ensures { result ≡ Err (BenchError.Refused (BenchRefused.Field field)) }
+{
+    Err(BenchError::Refused(BenchRefused::Field(field)))
+}
+
+/// The bench that a root is, or its first refusal.
+#[tactic(auto, unfolding(crate::specs::Stimulus::bench_in))]
+fn bench_in(alloc: Global, root: &Table) -> Result<Bench, BenchError>
+    ensures { (result ≢ Err BenchError.NoMemory) → result ≡ with_error (bench_in (table_view root.now)) }
+{
+    let Some(_) = number_at(root, "version", 1, 1) else {
+        return refuse(RootField::Version);
+    };
+    let Some(end) = number_at(root, "end", 1, MAX_END) else {
+        return refuse(RootField::End);
+    };
+    let Some(fill) = fill_in(root) else {
+        return refuse(RootField::Fill);
+    };
+    let Some(values) = values_in(root) else {
+        return refuse(RootField::Event);
+    };
+    if has_key_beside(root, &["version", "end", "fill", "event"]) {
+        return refuse(RootField::Unknown);
+    }
+    if values.len() > MAX_EVENTS {
+        let count = u32::try_from(values.len()).unwrap_or(u32::MAX);
+        return Err(BenchError::Refused(BenchRefused::TooMany(count)));
+    }
+    judge(alloc, end, fill, values)
+}
+
 /// The bench that a file is, or the first refusal in the order of `BenchRefused`.
 pub fn read_bench(alloc: Global, bytes: &[u8]) -> Result<Bench, BenchError>
     ensures text { IsUtf8 bytes.now → (result ≢ Err BenchError.NoMemory) → result ≡ with_error (bench_of (parse_document bytes.now)) }
     ensures no_text { (IsUtf8 bytes.now → ⊥) → (result ≢ Err BenchError.NoMemory) → result ≡ Err (BenchError.Refused BenchRefused.NotToml) }
-    ensures sound { IfOk result IsBench }
 {
     match toml::table_from_slice(alloc, bytes) {
-        Ok(_) => Err(BenchError::NoMemory),
-        Err(_) => Err(BenchError::Refused(BenchRefused::NotToml)),
+        Ok(root) => bench_in(alloc, &root),
+        Err(error) => {
+            if error.is_memory() {
+                Err(BenchError::NoMemory)
+            } else {
+                Err(BenchError::Refused(BenchRefused::NotToml))
+            }
+        }
     }
 }
