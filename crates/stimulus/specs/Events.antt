@@ -18,9 +18,16 @@ last_port = 4
 abbrev pub last_bit : ℕ
 last_bit = 7
 
--- the pins that there are
-abbrev pub IsPin : EventAct → Type 0
-IsPin (Pin port bit level) = (first_port ≤ port) × (port ≤ last_port) × (bit ≤ last_bit)
+-- a port has a bit
+abbrev pub IsPin : ℕ → ℕ → Type 0
+IsPin port bit = (first_port ≤ port) × (port ≤ last_port) × (bit ≤ last_bit)
+
+abbrev pub IsPinAct : EventAct → Type 0
+IsPinAct (Pin port bit level) = IsPin port bit
+
+-- an event comes to a pin that there is
+abbrev pub IsPinEvent : Event → Type 0
+IsPinEvent event = IsPinAct event.act
 
 -- what a name of a pin is made of
 abbrev pub letter_p : ℕ

@@ -12,7 +12,7 @@ use Rattle.stimulus.specs.declared.refusals.BenchError.TheVariants.{Refused}
 use Rattle.stimulus.specs.declared.refusals.RootField.{RootField}
 use Rattle.stimulus.specs.declared.refusals.RootField.TheVariants as field
 use Rattle.stimulus.specs.Toml.{has_key_beside, number_at, number_within, values_of}
-use Rattle.stimulus.specs.Events.{IsPin, breaks_rule, event_of, on_tick}
+use Rattle.stimulus.specs.Events.{IsPinEvent, breaks_rule, event_of, on_tick}
 
 -- what a bench does to a chip: how many ticks the run has, which byte RAM is filled with, and the events
 -- in the order of the file
@@ -29,7 +29,7 @@ pub record IsBench (bench : Stimulus) : Type 0 where
   pub in_order : IsNonDecreasingBy (λ event. event.tick) bench.events
   pub few_on_tick : (tick : ℕ) → length (on_tick tick bench.events) ≤ EVENTS_PER_TICK
   pub before_end : All (λ event. event.tick < bench.end) bench.events
-  pub on_pins : All (λ event. IsPin event.act) bench.events
+  pub on_pins : All IsPinEvent bench.events
 
 -- the keys of the root
 abbrev pub root_keys : List (List ℕ)
@@ -72,8 +72,11 @@ judged end fill values None = Ok (record { end = end; fill = fill; events = filt
 abbrev pub first_breaking : ℕ → List Data → Option ℕ
 first_breaking end values = find (breaks_rule end values) (range_with_len 0 (length values))
 
--- the bench of a root, or its first refusal in this order. A count of values that doesn't fit 32 bits is
--- told as the greatest that does
+-- a count as 32 bits hold it, which is the greatest number that they hold where they don't
+abbrev pub count_in_32_bits : ℕ → ℕ
+count_in_32_bits count = min count (2 ^ 32 - 1)
+
+-- the bench of a root, or its first refusal in this order
 unfoldable pub bench_in : Members → Result Stimulus BenchRefused
 bench_in root =
     with_field field.Version (version_in root) (λ version.
@@ -81,7 +84,7 @@ bench_in root =
     with_field field.Fill (fill_in root) (λ fill.
     with_field field.Event (values_in root) (λ values.
     if has_key_beside root_keys root then Err (refused.Field field.Unknown)
-    else if nat_lt MAX_EVENTS (length values) then Err (refused.TooMany (min (length values) (2 ^ 32 - 1)))
+    else if nat_lt MAX_EVENTS (length values) then Err (refused.TooMany (count_in_32_bits (length values)))
     else judged end fill values (first_breaking end values)))))
 
 -- the bench of a document, which is none where the bytes are no TOML

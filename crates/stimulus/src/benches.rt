@@ -1,5 +1,5 @@
 ghost use Rattle.std.specs.Prelude.{◌≡◌, ◌≤◌, ◌<◌, ◌++◌, ◌∷◌, [], All, IfOk, IsTrue, OnErr, OnOk, length};
-ghost use Rattle.stimulus.specs.Events.{IsPin, may_follow, on_tick};
+ghost use Rattle.stimulus.specs.Events.{IsPinEvent, may_follow, on_tick};
 ghost use Rattle.stimulus.specs.Stimulus.{IsBench};
 
 use crate::events::{Event, events_on_tick, none_after};
@@ -61,7 +61,7 @@ impl Bench {
     pub fn events(&self, tick: u32) -> &[Event]
         ensures events { result.now ≡ on_tick tick self.now.events }
         ensures few { length result.now ≤ EVENTS_PER_TICK }
-        ensures pins { All (λ event. IsPin event.act) result.now }
+        ensures pins { All IsPinEvent result.now }
     {
         events_on_tick(&self.events, tick)
     }
@@ -77,7 +77,7 @@ impl Bench {
     pub(crate) fn add(&mut self, event: Event) -> Result<(), NoMemory>
         requires follows { IsTrue (may_follow self.old.events event) }
         requires before_end { event.tick < self.old.end }
-        requires on_pin { IsPin event.act }
+        requires on_pin { IsPinEvent event }
         ensures ok { OnOk result (self.new ≡ record self.old { events = self.old.events ++ event ∷ [] }) }
         ensures err { OnErr result (self.new ≡ self.old) }
     {

@@ -8,9 +8,9 @@ mod benches;
 mod events;
 mod reading;
 mod refusals;
-mod trees;
 #[cfg(test)]
 mod tests;
+mod trees;
 
 pub use benches::Bench;
 pub use events::{Event, EventAct};

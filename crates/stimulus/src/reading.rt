@@ -1,6 +1,6 @@
 ghost use Rattle.std.specs.Prelude.{◌≡◌, ◌≢◌, ◌<◌, ◌≤◌, IfSome, IsTrue, length, map, option_map};
 ghost use Rattle.std.specs.Str.{IsUtf8};
-ghost use Rattle.stimulus.specs.Events.{IsPin, event_in, event_of, may_follow, next_event, pin_in, pin_named};
+ghost use Rattle.stimulus.specs.Events.{IsPin, IsPinEvent, event_in, event_of, may_follow, next_event, pin_in, pin_named};
 ghost use Rattle.stimulus.specs.Stimulus.{bench_in, bench_of, fill_in, first_breaking, judged, values_in, with_error};
 ghost use Rattle.toml.specs.Parse.{parse_document};
 ghost use Rattle.toml.specs.View.{table_view, view};
@@ -18,7 +18,7 @@ use toml::{Table, Value};
 #[tactic(auto, unfolding(crate::specs::Events::pin_named))]
 fn pin_named(text: &str) -> Option<(u8, u8)>
     ensures pin { result ≡ pin_named text.now }
-    ensures exists { IfSome result (λ pin. (1 ≤ pin.0) × (pin.0 ≤ 4) × (pin.1 ≤ 7)) }
+    ensures exists { IfSome result (λ pin. IsPin pin.0 pin.1) }
 {
     match text.as_bytes() {
         [b'P', port @ b'1'..=b'4', b'.', bit @ b'0'..=b'7'] => Some((port - b'0', bit - b'0')),
@@ -29,15 +29,9 @@ fn pin_named(text: &str) -> Option<(u8, u8)>
 /// The pin that an event names.
 fn pin_in(event: &Table) -> Option<(u8, u8)>
     ensures pin { result ≡ pin_in (table_view event.now) }
-    ensures exists { IfSome result (λ pin. (1 ≤ pin.0) × (pin.0 ≤ 4) × (pin.1 ≤ 7)) }
+    ensures exists { IfSome result (λ pin. IsPin pin.0 pin.1) }
 {
-    match value_at(event, "pin") {
-        Some(value) => match value.as_str() {
-            Some(text) => pin_named(text),
-            None => None,
-        },
-        None => None,
-    }
+    pin_named(value_at(event, "pin")?.as_str()?)
 }
 
 /// The event that a table is, if it is one of a bench with this end.
@@ -46,7 +40,7 @@ fn event_in(table: &Table, end: u32) -> Option<Event>
     requires { 1 ≤ end }
     ensures event { result ≡ event_in end (table_view table.now) }
     ensures before_end { IfSome result (λ event. event.tick < end) }
-    ensures on_pin { IfSome result (λ event. IsPin event.act) }
+    ensures on_pin { IfSome result IsPinEvent }
 {
     if has_key_beside(table, &["tick", "pin", "level"]) {
         return None;
@@ -65,12 +59,9 @@ fn event_of(value: &Value, end: u32) -> Option<Event>
     requires { 1 ≤ end }
     ensures event { result ≡ event_of end (view value.now) }
     ensures before_end { IfSome result (λ event. event.tick < end) }
-    ensures on_pin { IfSome result (λ event. IsPin event.act) }
+    ensures on_pin { IfSome result IsPinEvent }
 {
-    match value.as_table() {
-        Some(table) => event_in(table, end),
-        None => None,
-    }
+    event_in(value.as_table()?, end)
 }
 
 /// The event that a value is, if it is one that may stand behind those of a bench.
@@ -78,17 +69,13 @@ fn next_event(bench: &Bench, value: &Value) -> Option<Event>
     ensures event { result ≡ next_event bench.now.end bench.now.events (view value.now) }
     ensures follows { IfSome result (λ event. IsTrue (may_follow bench.now.events event)) }
     ensures before_end { IfSome result (λ event. event.tick < bench.now.end) }
-    ensures on_pin { IfSome result (λ event. IsPin event.act) }
+    ensures on_pin { IfSome result IsPinEvent }
 {
-    match event_of(value, bench.end()) {
-        Some(event) => {
-            if bench.may_add(event) {
-                Some(event)
-            } else {
-                None
-            }
-        }
-        None => None,
+    let event = event_of(value, bench.end())?;
+    if bench.may_add(event) {
+        Some(event)
+    } else {
+        None
     }
 }
 
@@ -120,10 +107,7 @@ fn fill_in(root: &Table) -> Option<u8>
     ensures { result ≡ fill_in (table_view root.now) }
 {
     match value_at(root, "fill") {
-        Some(value) => match number_within(value, 0, 255) {
-            Some(fill) => Some(fill as u8),
-            None => None,
-        },
+        Some(value) => Some(number_within(value, 0, 255)? as u8),
         None => Some(0),
     }
 }
@@ -133,10 +117,10 @@ fn values_in(root: &Table) -> Option<&[Value]>
     ensures { option_map (λ values. map view values.now) result ≡ values_in (table_view root.now) }
 {
     match value_at(root, "event") {
-        Some(value) => match value.as_array() {
-            Some(values) => Some(values.as_slice()),
-            None => None,
-        },
+        Some(value) => {
+            let values = value.as_array()?;
+            Some(values.as_slice())
+        }
         None => Some(&[]),
     }
 }

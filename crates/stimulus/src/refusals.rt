@@ -1,5 +1,3 @@
-ghost use Rattle.std.specs.Prelude.{◌≡◌};
-
 use chip_words::NoMemory;
 use std::error::Error;
 use std::fmt;
@@ -60,7 +58,10 @@ impl fmt::Display for BenchRefused {
         match self {
             BenchRefused::NotToml => f.write_str("not a TOML document"),
             BenchRefused::Field(RootField::Unknown) => f.write_str("an unknown key at the root"),
-            BenchRefused::Field(field) => write!(f, "`{field}` is missing or out of its range"),
+            BenchRefused::Field(field) => write!(
+                f,
+                "`{field}` is missing, of another type or out of its range"
+            ),
             BenchRefused::TooMany(count) => write!(f, "{count} events, which are too many"),
             BenchRefused::Event(index) => write!(f, "event {index} breaks a rule"),
         }

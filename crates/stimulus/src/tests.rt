@@ -120,7 +120,11 @@ fn refuses(rt: HostRuntime) -> Result<(), Fail> {
         ),
     ];
     for (name, text, want) in cases {
-        assert_eq!(rt; refusal(rt.alloc(), text.as_bytes()), Some(BenchError::Refused(want)), "{name}");
+        assert_eq!(rt;
+            refusal(rt.alloc(), text.as_bytes()),
+            Some(BenchError::Refused(want)),
+            "{name}"
+        );
     }
     Ok(())
 }
@@ -167,11 +171,17 @@ fn refuses_the_first_event_that_breaks_a_rule(rt: HostRuntime) -> Result<(), Fai
         ("another separator", "tick = 24\npin = \"P1:0\"\nlevel = 1"),
         ("a number as pin", "tick = 24\npin = 1.3\nlevel = 1"),
         ("level 2", "tick = 24\npin = \"P1.3\"\nlevel = 2"),
-        ("a boolean as level", "tick = 24\npin = \"P1.3\"\nlevel = true"),
+        (
+            "a boolean as level",
+            "tick = 24\npin = \"P1.3\"\nlevel = true",
+        ),
         ("no tick", "pin = \"P1.3\"\nlevel = 1"),
         ("no pin", "tick = 24\nlevel = 1"),
         ("no level", "tick = 24\npin = \"P1.3\""),
-        ("another key", "tick = 24\npin = \"P1.3\"\nlevel = 1\nport = 1"),
+        (
+            "another key",
+            "tick = 24\npin = \"P1.3\"\nlevel = 1\nport = 1",
+        ),
         ("a command", "tick = 24\ndebug = \"halt\""),
         ("nothing", ""),
     ];
@@ -191,7 +201,9 @@ fn crowd(alloc: Global, ticks: u32, on_tick: u32) -> Result<String, Fail> {
     for tick in 0..ticks {
         for event in 0..on_tick {
             let bit = event % 8;
-            text.push_str(format!(in alloc; "[[event]]\ntick = {tick}\npin = \"P2.{bit}\"\nlevel = 0\n")?.as_str())?;
+            text.push_str(format!(in alloc;
+                "[[event]]\ntick = {tick}\npin = \"P2.{bit}\"\nlevel = 0\n"
+            )?.as_str())?;
         }
     }
     Ok(text)
@@ -248,7 +260,10 @@ fn reads_a_bench(rt: HostRuntime) -> Result<(), Fail> {
     assert_eq!(rt; bench.events(0), [pin(0, 1, 0, true)].as_slice());
     assert_eq!(rt; bench.events(1), [].as_slice());
     assert_eq!(rt; bench.events(23), [].as_slice());
-    assert_eq!(rt; bench.events(24), [pin(24, 4, 7, false), pin(24, 1, 3, true)].as_slice());
+    assert_eq!(rt;
+        bench.events(24),
+        [pin(24, 4, 7, false), pin(24, 1, 3, true)].as_slice()
+    );
     assert_eq!(rt; bench.events(29), [pin(29, 3, 6, true)].as_slice());
     assert_eq!(rt; bench.events(30), [].as_slice());
     assert_eq!(rt; bench.events(u32::MAX), [].as_slice());
@@ -267,7 +282,7 @@ fn says_why(rt: HostRuntime) -> Result<(), Fail> {
         (BenchRefused::NotToml, "not a TOML document"),
         (
             BenchRefused::Field(RootField::End),
-            "`end` is missing or out of its range",
+            "`end` is missing, of another type or out of its range",
         ),
         (
             BenchRefused::Field(RootField::Unknown),

@@ -19,15 +19,11 @@ fn integer_within(integer: i64, low: u32, high: u32) -> Option<u32>
     ensures number { result ≡ integer_within low high integer }
     ensures bound { IfSome result (λ number. number ≤ high) }
 {
-    match u32::try_from(integer) {
-        Ok(number) => {
-            if low <= number && number <= high {
-                Some(number)
-            } else {
-                None
-            }
-        }
-        Err(_) => None,
+    let number = u32::try_from(integer).ok()?;
+    if low <= number && number <= high {
+        Some(number)
+    } else {
+        None
     }
 }
 
@@ -36,10 +32,7 @@ pub fn number_within(value: &Value, low: u32, high: u32) -> Option<u32>
     ensures number { result ≡ number_within low high (view value.now) }
     ensures bound { IfSome result (λ number. number ≤ high) }
 {
-    match value.as_integer() {
-        Some(integer) => integer_within(integer, low, high),
-        None => None,
-    }
+    integer_within(value.as_integer()?, low, high)
 }
 
 /// The integer from `low` up to and with `high` that a table has at a key.
@@ -47,10 +40,7 @@ pub fn number_at(table: &Table, key: &str, low: u32, high: u32) -> Option<u32>
     ensures number { result ≡ number_at key.now low high (table_view table.now) }
     ensures bound { IfSome result (λ number. number ≤ high) }
 {
-    match value_at(table, key) {
-        Some(value) => number_within(value, low, high),
-        None => None,
-    }
+    number_within(value_at(table, key)?, low, high)
 }
 
 /// Says whether a text is one of some names.

@@ -1,4 +1,4 @@
-use Rattle.std.proofs.Common.{◌≡◌, ◌-◌, length, take, drop, nat_le, nat_lt, rules, arith, sym}
+use Rattle.std.proofs.Common.{◌≡◌, ◌-◌, length, take, drop, nat_le, nat_lt, rules, arith}
 use Rattle.std.proofs.lemmas.List.{length-drop, take_all}
 use Rattle.std.proofs.lemmas.List.Sorted.{IsNonDecreasingBy-drop, IsPartitionPoint-from_clause, IsPartitionedBy-leb, IsPartitionedBy-ltb}
 use Rattle.stimulus.proofs.OnTick.{on_tick-found}

@@ -1,4 +1,3 @@
-use Rattle.std.proofs.Common.{rules, arith}
 use Rattle.stimulus.proofs.Order.{none_after-empty, none_after-last}
 use Rattle.stimulus.proofs.events.none_after.Goals as goal
 

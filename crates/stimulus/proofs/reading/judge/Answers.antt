@@ -17,7 +17,7 @@ returns-in_default c _ =
     let within : index < length values = simp length-map c.loop-index-test.true in
     let here : get_or values index (view value) ≡ view value = get_or-map view c.args.values.now index value (view value) c.loop-index-test.true ∙ ap view (sym c.index-values-index.is) in
     let read : next_event end (filter_map (event_of end) (take index values)) (view value) ≡ None =
-        subst (λ (bench : Stimulus). next_event bench.end bench.events (view value) ≡ None) c.loop-index.invariant.so_far (sym c.next_event.ensures.event ∙ c.in_default.is) in
+    subst (λ (bench : Stimulus). next_event bench.end bench.events (view value) ≡ None) c.loop-index.invariant.so_far (sym c.next_event.ensures.event ∙ c.in_default.is) in
     let refused = breaks_rule-refused end values index (view value) within (rw (← here) at read) in
     rw (first_breaking-at end values index within c.loop-index.invariant.none_breaks refused) refl
 
@@ -30,7 +30,7 @@ loop-index-preserved c =
     let within : index < length values = simp length-map c.loop-index-test.true in
     let here : get_or values index (view value) ≡ view value = get_or-map view c.args.values.now index value (view value) c.loop-index-test.true ∙ ap view (sym c.index-values-index.is) in
     let read : next_event end (filter_map (event_of end) (take index values)) (view value) ≡ Some c.in-Some.event =
-        subst (λ (bench : Stimulus). next_event bench.end bench.events (view value) ≡ Some c.in-Some.event) c.loop-index.invariant.so_far (sym c.in-Some.ensures.event) in
+    subst (λ (bench : Stimulus). next_event bench.end bench.events (view value) ≡ Some c.in-Some.event) c.loop-index.invariant.so_far (sym c.in-Some.ensures.event) in
     let taken = rw (← here) at read in
     let added = events-more end values index (view value) c.in-Some.event within taken in
     record {
