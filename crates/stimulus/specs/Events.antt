@@ -1,5 +1,5 @@
 -- The events of a bench: what one of them is, and which rules hold among them.
-use Rattle.std.specs.Prelude.{ℕ, ◌+◌, ◌-◌, ◌<◌, ◌≤◌, Bool, ◌&&◌, ◌==◌, nat_le, nat_lt, List, [], ◌∷◌, length, take, filter, filter_map, codes, Option, Some, None, if◌then◌else◌, is_none, option_map, option_and_then, slice_get}
+use Rattle.std.specs.Prelude.{ℕ, ◌+◌, ◌-◌, ◌≤◌, Bool, ◌&&◌, ◌==◌, nat_le, nat_lt, List, [], ◌∷◌, length, take, filter, filter_map, codes, Option, Some, None, if◌then◌else◌, is_none, option_map, option_and_then, slice_get}
 use Rattle.std.specs.List.{list_all}
 use Rattle.toml.specs.Data.{Data, Members, as_str, as_table, get_member}
 use Rattle.stimulus.specs.declared.TheConstants.{EVENTS_PER_TICK}

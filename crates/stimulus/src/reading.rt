@@ -10,7 +10,6 @@ use crate::events::{Event, EventAct};
 use crate::refusals::{BenchError, BenchRefused, RootField};
 use crate::trees::{has_key_beside, number_at, number_within, value_at};
 use crate::{MAX_END, MAX_EVENTS};
-use chip_words::NoMemory;
 use std::alloc::Global;
 use toml::{Table, Value};
 
@@ -86,18 +85,12 @@ fn judge(alloc: Global, end: u32, fill: u8, values: &[Value]) -> Result<Bench, B
     requires few_events { length values.now ≤ MAX_EVENTS }
     ensures { (result ≢ Err BenchError.NoMemory) → result ≡ with_error (judged end fill (map view values.now) (first_breaking end (map view values.now))) }
 {
-    let mut bench = match Bench::plain(alloc, end, fill) {
-        Ok(bench) => bench,
-        Err(NoMemory) => return Err(BenchError::NoMemory),
-    };
+    let mut bench = Bench::plain(alloc, end, fill)?;
     for (index, value) in values.iter().enumerate() {
         let Some(event) = next_event(&bench, value) else {
             return Err(BenchError::Refused(BenchRefused::Event(index as u32)));
         };
-        match bench.add(event) {
-            Ok(()) => {}
-            Err(NoMemory) => return Err(BenchError::NoMemory),
-        }
+        bench.add(event)?;
     }
     Ok(bench)
 }

@@ -41,6 +41,17 @@ pub enum BenchError {
     NoMemory,
 }
 
+impl From<NoMemory> for BenchError {
+    ghost use Rattle.std.specs.Prelude.{◌≡◌};
+    ghost use Rattle.stimulus.specs.declared.refusals.BenchError.TheVariants as error;
+
+    ghost from_gives = { λ _ e. e ≡ error.NoMemory };
+
+    fn from(_: NoMemory) -> BenchError {
+        BenchError::NoMemory
+    }
+}
+
 impl fmt::Display for RootField {
     fn fmt<W: fmt::Write>(&self, f: &mut fmt::Formatter<W>) -> fmt::Result {
         f.write_str(match self {

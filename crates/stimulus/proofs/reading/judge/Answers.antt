@@ -34,7 +34,7 @@ loop-index-preserved c =
     let taken = rw (← here) at read in
     let added = events-more end values index (view value) c.in-Some.event within taken in
     record {
-      so_far = c.in-Ok-add.ensures.ok ∙ subst (λ (bench : Stimulus). record bench { events = bench.events ++ c.in-Some.event ∷ [] } ≡ record { end = end; fill = c.args.fill; events = filter_map (event_of end) (take (index + 1) values) }) (sym c.loop-index.invariant.so_far) (rw added refl);
+      so_far = c.in_ok-add.ensures.ok ∙ subst (λ (bench : Stimulus). record bench { events = bench.events ++ c.in-Some.event ∷ [] } ≡ record { end = end; fill = c.args.fill; events = filter_map (event_of end) (take (index + 1) values) }) (sym c.loop-index.invariant.so_far) (rw added refl);
       none_breaks = below_more (λ (k : ℕ). breaks_rule end values k ≡ false) index c.loop-index.invariant.none_breaks (breaks_rule-taken end values index (view value) c.in-Some.event within taken);
     }
 
