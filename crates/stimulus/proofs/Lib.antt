@@ -1,0 +1,4 @@
+pub mod FirstBreaking
+pub mod OnTick
+pub mod Order
+pub mod Views

@@ -1,0 +1,107 @@
+-- The events of a bench: what one of them is, and which rules hold among them.
+use Rattle.std.specs.Prelude.{ℕ, ◌+◌, ◌-◌, ◌≤◌, Bool, ◌&&◌, ◌==◌, nat_le, nat_lt, List, [], ◌∷◌, length, take, filter, filter_map, codes, Option, Some, None, if◌then◌else◌, is_none, option_map, option_and_then, slice_get}
+use Rattle.std.specs.List.{list_all}
+use Rattle.toml.specs.Data.{Data, Members, as_str, as_table, get_member}
+use Rattle.stimulus.specs.declared.TheConstants.{EVENTS_PER_TICK}
+use Rattle.stimulus.specs.declared.events.Event.{Event}
+use Rattle.stimulus.specs.declared.events.EventAct.{EventAct}
+use Rattle.stimulus.specs.declared.events.EventAct.TheVariants.{Pin}
+use Rattle.stimulus.specs.Toml.{has_key_beside, number_at}
+
+-- the first port and the last, and the highest bit of a port
+abbrev pub first_port : ℕ
+first_port = 1
+
+abbrev pub last_port : ℕ
+last_port = 4
+
+abbrev pub last_bit : ℕ
+last_bit = 7
+
+-- a port has a bit
+abbrev pub IsPin : ℕ → ℕ → Type 0
+IsPin port bit = (first_port ≤ port) × (port ≤ last_port) × (bit ≤ last_bit)
+
+abbrev pub IsPinAct : EventAct → Type 0
+IsPinAct (Pin port bit level) = IsPin port bit
+
+-- an event comes to a pin that there is
+abbrev pub IsPinEvent : Event → Type 0
+IsPinEvent event = IsPinAct event.act
+
+-- what a name of a pin is made of
+abbrev pub letter_p : ℕ
+letter_p = 80
+
+abbrev pub point : ℕ
+point = 46
+
+abbrev pub digit_zero : ℕ
+digit_zero = 48
+
+-- a character is a digit from `low` up to and with `high`
+abbrev pub is_digit_within : ℕ → ℕ → ℕ → Bool
+is_digit_within low high code = nat_le (digit_zero + low) code && nat_le code (digit_zero + high)
+
+-- the port and the bit that a text names, from P1.0 to P4.7
+unfoldable pub pin_named : List ℕ → Option (ℕ × ℕ)
+pin_named (letter ∷ port ∷ separator ∷ bit ∷ []) =
+    if letter == letter_p && is_digit_within first_port last_port port && separator == point && is_digit_within 0 last_bit bit
+    then Some (port - digit_zero, bit - digit_zero)
+    else None
+pin_named _ = None
+
+-- the keys of an event
+abbrev pub event_keys : List (List ℕ)
+event_keys = codes "tick" ∷ codes "pin" ∷ codes "level" ∷ []
+
+-- what an event has at each of them
+abbrev pub tick_in : ℕ → Members → Option ℕ
+tick_in end all = number_at (codes "tick") 0 (end - 1) all
+
+abbrev pub pin_in : Members → Option (ℕ × ℕ)
+pin_in all = option_and_then pin_named (option_and_then as_str (get_member (codes "pin") all))
+
+abbrev pub level_in : Members → Option Bool
+level_in all = option_map (λ level. level == 1) (number_at (codes "level") 0 1 all)
+
+-- the event of a tick, a pin and a level, where there are all three
+abbrev pub event_with : Option ℕ → Option (ℕ × ℕ) → Option Bool → Option Event
+event_with None pin level = None
+event_with (Some tick) None level = None
+event_with (Some tick) (Some pin) None = None
+event_with (Some tick) (Some pin) (Some level) = Some (record { tick = tick; act = Pin pin.0 pin.1 level })
+
+-- the event that a table is, on a bench with this end: it has just the three keys
+unfoldable pub event_in : ℕ → Members → Option Event
+event_in end all =
+    if has_key_beside event_keys all then None
+    else event_with (tick_in end all) (pin_in all) (level_in all)
+
+abbrev pub event_of : ℕ → Data → Option Event
+event_of end value = option_and_then (event_in end) (as_table value)
+
+-- the events of one tick
+unfoldable pub on_tick : ℕ → List Event → List Event
+on_tick tick events = filter (λ event. event.tick == tick) events
+
+-- no event comes after a tick
+unfoldable pub none_after : ℕ → List Event → Bool
+none_after tick events = list_all (λ event. nat_le event.tick tick) events
+
+-- an event may stand behind others: none of them comes after its tick, and its tick has room for one more
+unfoldable pub may_follow : List Event → Event → Bool
+may_follow before event =
+    none_after event.tick before && nat_lt (length (on_tick event.tick before)) EVENTS_PER_TICK
+
+-- the event that a value is, if it is one that may stand behind others
+abbrev pub if_follows : List Event → Event → Option Event
+if_follows before event = if may_follow before event then Some event else None
+
+abbrev pub next_event : ℕ → List Event → Data → Option Event
+next_event end before value = option_and_then (if_follows before) (event_of end value)
+
+-- the value at an index is no event that may stand behind those before it
+unfoldable pub breaks_rule : ℕ → List Data → ℕ → Bool
+breaks_rule end values index =
+    is_none (option_and_then (next_event end (filter_map (event_of end) (take index values))) (slice_get values index))

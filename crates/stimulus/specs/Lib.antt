@@ -1,0 +1,3 @@
+pub mod Toml
+pub mod Events
+pub mod Stimulus

@@ -1,0 +1,98 @@
+-- The bench that a TOML document is: what it has, and why a document is none.
+use Rattle.std.specs.Prelude.{ℕ, ◌<◌, ◌≤◌, ◌^◌, ◌-◌, nat_lt, min, List, [], ◌∷◌, length, All, codes, filter_map, find, Option, Some, None, if◌then◌else◌, option_map, Result, Ok, Err}
+use Rattle.std.specs.List.{range_with_len}
+use Rattle.std.specs.List.Sorted.{IsNonDecreasingBy}
+use Rattle.toml.specs.Data.{Data, Members, as_array, get_member}
+use Rattle.stimulus.specs.declared.TheConstants.{EVENTS_PER_TICK, MAX_END, MAX_EVENTS}
+use Rattle.stimulus.specs.declared.events.Event.{Event}
+use Rattle.stimulus.specs.declared.refusals.BenchRefused.{BenchRefused}
+use Rattle.stimulus.specs.declared.refusals.BenchRefused.TheVariants as refused
+use Rattle.stimulus.specs.declared.refusals.BenchError.{BenchError}
+use Rattle.stimulus.specs.declared.refusals.BenchError.TheVariants.{Refused}
+use Rattle.stimulus.specs.declared.refusals.RootField.{RootField}
+use Rattle.stimulus.specs.declared.refusals.RootField.TheVariants as field
+use Rattle.stimulus.specs.Toml.{has_key_beside, number_at, number_within, values_of}
+use Rattle.stimulus.specs.Events.{IsPinEvent, breaks_rule, event_of, on_tick}
+
+-- what a bench does to a chip: how many ticks the run has, which byte RAM is filled with, and the events
+-- in the order of the file
+pub record Stimulus : Type 0 where
+  pub end : ℕ
+  pub fill : ℕ
+  pub events : List Event
+
+-- what holds of every bench: ticks don't fall, few events share one, and each comes before the end
+pub record IsBench (bench : Stimulus) : Type 0 where
+  pub some_ticks : 1 ≤ bench.end
+  pub few_ticks : bench.end ≤ MAX_END
+  pub fill_is_byte : bench.fill < 2 ^ 8
+  pub in_order : IsNonDecreasingBy (λ event. event.tick) bench.events
+  pub few_on_tick : (tick : ℕ) → length (on_tick tick bench.events) ≤ EVENTS_PER_TICK
+  pub before_end : All (λ event. event.tick < bench.end) bench.events
+  pub on_pins : All IsPinEvent bench.events
+
+-- the keys of the root
+abbrev pub root_keys : List (List ℕ)
+root_keys = codes "version" ∷ codes "end" ∷ codes "fill" ∷ codes "event" ∷ []
+
+-- the numbers at `version` and `end`, which have to be there
+abbrev pub version_in : Members → Option ℕ
+version_in root = number_at (codes "version") 1 1 root
+
+abbrev pub end_in : Members → Option ℕ
+end_in root = number_at (codes "end") 1 MAX_END root
+
+-- the number at `fill`, which is 0 where it isn't there
+abbrev pub fill_at : Option Data → Option ℕ
+fill_at None = Some 0
+fill_at (Some value) = number_within 0 255 value
+
+abbrev pub fill_in : Members → Option ℕ
+fill_in root = fill_at (get_member (codes "fill") root)
+
+-- the values of the array at `event`, which is empty where it isn't there
+abbrev pub values_at : Option Data → Option (List Data)
+values_at None = Some []
+values_at (Some value) = option_map values_of (as_array value)
+
+abbrev pub values_in : Members → Option (List Data)
+values_in root = values_at (get_member (codes "event") root)
+
+-- what follows for the value of a key, or the refusal of the key where it has none
+abbrev pub with_field : {A : Type 0} → RootField → Option A → (A → Result Stimulus BenchRefused) → Result Stimulus BenchRefused
+with_field name None rest = Err (refused.Field name)
+with_field name (Some value) rest = rest value
+
+-- the bench of these parts, or the refusal of the first value that breaks a rule
+abbrev pub judged : ℕ → ℕ → List Data → Option ℕ → Result Stimulus BenchRefused
+judged end fill values (Some index) = Err (refused.Event index)
+judged end fill values None = Ok (record { end = end; fill = fill; events = filter_map (event_of end) values })
+
+-- the first index at which a value breaks a rule
+abbrev pub first_breaking : ℕ → List Data → Option ℕ
+first_breaking end values = find (breaks_rule end values) (range_with_len 0 (length values))
+
+-- a count as 32 bits hold it, which is the greatest number that they hold where they don't
+abbrev pub count_in_32_bits : ℕ → ℕ
+count_in_32_bits count = min count (2 ^ 32 - 1)
+
+-- the bench of a root, or its first refusal in this order
+unfoldable pub bench_in : Members → Result Stimulus BenchRefused
+bench_in root =
+    with_field field.Version (version_in root) (λ version.
+    with_field field.End (end_in root) (λ end.
+    with_field field.Fill (fill_in root) (λ fill.
+    with_field field.Event (values_in root) (λ values.
+    if has_key_beside root_keys root then Err (refused.Field field.Unknown)
+    else if nat_lt MAX_EVENTS (length values) then Err (refused.TooMany (count_in_32_bits (length values)))
+    else judged end fill values (first_breaking end values)))))
+
+-- the bench of a document, which is none where the bytes are no TOML
+abbrev pub bench_of : Option Members → Result Stimulus BenchRefused
+bench_of None = Err refused.NotToml
+bench_of (Some root) = bench_in root
+
+-- a refusal as the error that it is
+abbrev pub with_error : Result Stimulus BenchRefused → Result Stimulus BenchError
+with_error (Ok bench) = Ok bench
+with_error (Err refusal) = Err (Refused refusal)

@@ -1,0 +1,25 @@
+//! The bench that a firmware writer gives: how long a run is, what RAM is filled with, and what comes
+//! to the pins at which tick.
+//!
+//! A bench is a TOML document of the format in `docs/BENCH.md`.
+#![tactic(auto)]
+
+mod benches;
+mod events;
+mod reading;
+mod refusals;
+#[cfg(test)]
+mod tests;
+mod trees;
+
+pub use benches::Bench;
+pub use events::{Event, EventAct};
+pub use reading::read_bench;
+pub use refusals::{BenchError, BenchRefused, RootField};
+
+/// The longest run, in ticks. A bench has an end from 1 up to this.
+pub const MAX_END: u32 = 32_768;
+/// The most events that a bench has.
+pub const MAX_EVENTS: usize = 10_000;
+/// The most events that come in one tick.
+pub const EVENTS_PER_TICK: usize = 8;

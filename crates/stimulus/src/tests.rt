@@ -1,0 +1,304 @@
+use crate::{Bench, BenchError, BenchRefused, Event, EventAct, RootField, read_bench};
+use std::alloc::Global;
+use std::test::Fail;
+
+/// Why some bytes are no bench, if they are none.
+fn refusal(alloc: Global, bytes: &[u8]) -> Option<BenchError> {
+    read_bench(alloc, bytes).err()
+}
+
+/// The refusal of a text whose end comes after its other lines.
+const ROOT: &str = "version = 1\nend = 30\n";
+
+#[test]
+fn refuses(rt: HostRuntime) -> Result<(), Fail> {
+    let field = BenchRefused::Field;
+    let cases = [
+        ("the text =", "=", BenchRefused::NotToml),
+        (
+            "an integer beyond 64 bits",
+            "version = 1\nend = 99999999999999999999",
+            BenchRefused::NotToml,
+        ),
+        ("nothing", "", field(RootField::Version)),
+        (
+            "version 9",
+            "version = 9\nend = 5",
+            field(RootField::Version),
+        ),
+        (
+            "a float as version",
+            "version = 1.0\nend = 5",
+            field(RootField::Version),
+        ),
+        (
+            "a text as version",
+            "version = \"1\"\nend = 5",
+            field(RootField::Version),
+        ),
+        ("no end", "version = 1", field(RootField::End)),
+        ("end 0", "version = 1\nend = 0", field(RootField::End)),
+        (
+            "end 32769",
+            "version = 1\nend = 32769",
+            field(RootField::End),
+        ),
+        (
+            "a negative end",
+            "version = 1\nend = -1",
+            field(RootField::End),
+        ),
+        (
+            "end 2^32 + 1",
+            "version = 1\nend = 4294967297",
+            field(RootField::End),
+        ),
+        (
+            "a date as end",
+            "version = 1\nend = 1979-05-27",
+            field(RootField::End),
+        ),
+        (
+            "a boolean as end",
+            "version = 1\nend = true",
+            field(RootField::End),
+        ),
+        (
+            "a boolean as fill",
+            "version = 1\nend = 5\nfill = false",
+            field(RootField::Fill),
+        ),
+        (
+            "fill 256",
+            "version = 1\nend = 5\nfill = 256",
+            field(RootField::Fill),
+        ),
+        (
+            "an array as fill",
+            "version = 1\nend = 5\nfill = [1]",
+            field(RootField::Fill),
+        ),
+        (
+            "an event that is a number",
+            "version = 1\nend = 5\nevent = 1",
+            field(RootField::Event),
+        ),
+        (
+            "an event that is a table",
+            "version = 1\nend = 5\nevent = {}",
+            field(RootField::Event),
+        ),
+        (
+            "an event that is a text",
+            "version = 1\nend = 5\nevent = \"P1.0\"",
+            field(RootField::Event),
+        ),
+        (
+            "cuts",
+            "version = 1\nend = 5\ncut = []",
+            field(RootField::Unknown),
+        ),
+        (
+            "a capital",
+            "version = 1\nend = 5\nEnd = 5",
+            field(RootField::Unknown),
+        ),
+        (
+            "an unknown key before a wrong end",
+            "a = 1\nversion = 1\nend = 0",
+            field(RootField::End),
+        ),
+        (
+            "an unknown key before a wrong event",
+            "version = 1\nend = 5\nevent = [1]\nz = 1",
+            field(RootField::Unknown),
+        ),
+        (
+            "an event that is no table",
+            "version = 1\nend = 5\nevent = [1]",
+            BenchRefused::Event(0),
+        ),
+    ];
+    for (name, text, want) in cases {
+        assert_eq!(rt;
+            refusal(rt.alloc(), text.as_bytes()),
+            Some(BenchError::Refused(want)),
+            "{name}"
+        );
+    }
+    Ok(())
+}
+
+#[test]
+fn refuses_bytes_that_are_no_text(rt: HostRuntime) -> Result<(), Fail> {
+    let mut bytes = Vec::new(rt.alloc());
+    bytes.extend_from_slice(ROOT.as_bytes())?;
+    bytes.extend_from_slice(b"# \xFF\n")?;
+    let not_toml = Some(BenchError::Refused(BenchRefused::NotToml));
+    assert_eq!(rt; refusal(rt.alloc(), bytes.as_slice()), not_toml);
+
+    // A value may nest 80 deep in a TOML document.
+    for (depth, want) in [
+        (80, Some(BenchError::Refused(BenchRefused::Event(0)))),
+        (81, not_toml),
+    ] {
+        let mut text = String::from_str(rt.alloc(), ROOT)?;
+        text.push_str("event = ")?;
+        for _ in 0..depth {
+            text.push_str("[")?;
+        }
+        for _ in 0..depth {
+            text.push_str("]")?;
+        }
+        assert_eq!(rt; refusal(rt.alloc(), text.as_bytes()), want);
+    }
+    Ok(())
+}
+
+#[test]
+fn refuses_the_first_event_that_breaks_a_rule(rt: HostRuntime) -> Result<(), Fail> {
+    // Each follows the event 0 at tick 24.
+    let cases = [
+        ("an earlier tick", "tick = 23\npin = \"P1.3\"\nlevel = 1"),
+        ("the end", "tick = 30\npin = \"P1.3\"\nlevel = 1"),
+        ("a negative tick", "tick = -1\npin = \"P1.3\"\nlevel = 1"),
+        ("a float as tick", "tick = 25.0\npin = \"P1.3\"\nlevel = 1"),
+        ("port 0", "tick = 24\npin = \"P0.0\"\nlevel = 1"),
+        ("port 5", "tick = 24\npin = \"P5.0\"\nlevel = 1"),
+        ("bit 8", "tick = 24\npin = \"P1.8\"\nlevel = 1"),
+        ("a small letter", "tick = 24\npin = \"p1.0\"\nlevel = 1"),
+        ("a longer name", "tick = 24\npin = \"P1.00\"\nlevel = 1"),
+        ("another separator", "tick = 24\npin = \"P1:0\"\nlevel = 1"),
+        ("a number as pin", "tick = 24\npin = 1.3\nlevel = 1"),
+        ("level 2", "tick = 24\npin = \"P1.3\"\nlevel = 2"),
+        (
+            "a boolean as level",
+            "tick = 24\npin = \"P1.3\"\nlevel = true",
+        ),
+        ("no tick", "pin = \"P1.3\"\nlevel = 1"),
+        ("no pin", "tick = 24\nlevel = 1"),
+        ("no level", "tick = 24\npin = \"P1.3\""),
+        (
+            "another key",
+            "tick = 24\npin = \"P1.3\"\nlevel = 1\nport = 1",
+        ),
+        ("a command", "tick = 24\ndebug = \"halt\""),
+        ("nothing", ""),
+    ];
+    for (name, event) in cases {
+        let mut text = String::from_str(rt.alloc(), ROOT)?;
+        text.push_str("[[event]]\ntick = 24\npin = \"P1.3\"\nlevel = 1\n[[event]]\n")?;
+        text.push_str(event)?;
+        let want = Some(BenchError::Refused(BenchRefused::Event(1)));
+        assert_eq!(rt; refusal(rt.alloc(), text.as_bytes()), want, "{name}");
+    }
+    Ok(())
+}
+
+/// A bench with so many events on each of so many ticks.
+fn crowd(alloc: Global, ticks: u32, on_tick: u32) -> Result<String, Fail> {
+    let mut text = String::from_str(alloc, "version = 1\nend = 32768\n")?;
+    for tick in 0..ticks {
+        for event in 0..on_tick {
+            let bit = event % 8;
+            text.push_str(format!(in alloc;
+                "[[event]]\ntick = {tick}\npin = \"P2.{bit}\"\nlevel = 0\n"
+            )?.as_str())?;
+        }
+    }
+    Ok(text)
+}
+
+#[test]
+fn refuses_too_many(rt: HostRuntime) -> Result<(), Fail> {
+    let crowded = crowd(rt.alloc(), 1, 9)?;
+    let want = Some(BenchError::Refused(BenchRefused::Event(8)));
+    assert_eq!(rt; refusal(rt.alloc(), crowded.as_bytes()), want);
+
+    let most = crowd(rt.alloc(), 1250, 8)?;
+    let bench = read_bench(rt.alloc(), most.as_bytes())?;
+    assert_eq!(rt; bench.events(1249).len(), 8);
+
+    let long = crowd(rt.alloc(), 10_001, 1)?;
+    let want = Some(BenchError::Refused(BenchRefused::TooMany(10_001)));
+    assert_eq!(rt; refusal(rt.alloc(), long.as_bytes()), want);
+    Ok(())
+}
+
+fn pin(tick: u32, port: u8, bit: u8, level: bool) -> Event {
+    Event {
+        tick,
+        act: EventAct::Pin(port, bit, level),
+    }
+}
+
+#[test]
+fn reads_a_bench(rt: HostRuntime) -> Result<(), Fail> {
+    let text = "
+        end = 30        # keys of the root come in any order
+        version = 1
+        fill = 0xA5
+        [[event]]
+        tick = 0
+        pin = \"P1.0\"
+        level = 1
+        [[event]]
+        level = 0
+        tick = 24
+        pin = \"P4.7\"
+        [[event]]
+        tick = 24
+        pin = \"P1.3\"
+        level = 1
+        [[event]]
+        tick = 29
+        pin = \"P3.6\"
+        level = 1
+    ";
+    let bench = read_bench(rt.alloc(), text.as_bytes())?;
+    assert_eq!(rt; (bench.end(), bench.fill()), (30, 0xA5));
+    assert_eq!(rt; bench.events(0), [pin(0, 1, 0, true)].as_slice());
+    assert_eq!(rt; bench.events(1), [].as_slice());
+    assert_eq!(rt; bench.events(23), [].as_slice());
+    assert_eq!(rt;
+        bench.events(24),
+        [pin(24, 4, 7, false), pin(24, 1, 3, true)].as_slice()
+    );
+    assert_eq!(rt; bench.events(29), [pin(29, 3, 6, true)].as_slice());
+    assert_eq!(rt; bench.events(30), [].as_slice());
+    assert_eq!(rt; bench.events(u32::MAX), [].as_slice());
+
+    let short = read_bench(rt.alloc(), b"version = 1\nend = 32768\nevent = []\n")?;
+    assert_eq!(rt; (short.end(), short.fill()), (32_768, 0));
+    let plain = Bench::plain(rt.alloc(), 1, 255)?;
+    assert_eq!(rt; (plain.end(), plain.fill()), (1, 255));
+    assert_eq!(rt; plain.events(0), [].as_slice());
+    Ok(())
+}
+
+#[test]
+fn says_why(rt: HostRuntime) -> Result<(), Fail> {
+    for (refused, want) in [
+        (BenchRefused::NotToml, "not a TOML document"),
+        (
+            BenchRefused::Field(RootField::End),
+            "`end` is missing, of another type or out of its range",
+        ),
+        (
+            BenchRefused::Field(RootField::Unknown),
+            "an unknown key at the root",
+        ),
+        (
+            BenchRefused::TooMany(10_001),
+            "10001 events, which are too many",
+        ),
+        (BenchRefused::Event(7), "event 7 breaks a rule"),
+    ] {
+        assert_eq!(rt; format!(in rt.alloc(); "{refused}")?.as_str(), want);
+        let error = BenchError::Refused(refused);
+        assert_eq!(rt; format!(in rt.alloc(); "{error}")?.as_str(), want);
+    }
+    let error = BenchError::NoMemory;
+    assert_eq!(rt; format!(in rt.alloc(); "{error}")?.as_str(), "no memory");
+    Ok(())
+}
