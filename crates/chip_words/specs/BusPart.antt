@@ -1,5 +1,5 @@
 -- The part of the chip that an access reads or changes.
-use Rattle.std.specs.Prelude.{◌<◌, List, Bool, length, ℕ}
+use Rattle.std.specs.Prelude.{◌<◌, List, Bool, Option, length, ℕ}
 use Rattle.chip_words.specs.declared.accesses.Access.{Access}
 use Rattle.chip_words.specs.declared.accesses.Agent.{Agent}
 use Rattle.chip_words.specs.declared.accesses.Agent.TheVariants.{Debug}
@@ -9,9 +9,15 @@ pub record BusPart : Type 0 where
   -- the bytes of FRAM and SRAM by address
   pub memory : List ℕ
   pub units : Units
+  -- what SRAM holds when power comes on, which nothing changes
+  pub fill : ℕ
+  -- how many writes of the tick are present, where its power is cut
+  pub budget : Option ℕ
+  -- how many writes the tick has had
+  pub writes : ℕ
   -- the accesses of the step so far
   pub accesses : List Access
-  -- an access has met a register that isn't built
+  -- something that isn't built was met
   pub stop : Bool
 
 -- a step has room for one more access; those of the debugger aren't listed

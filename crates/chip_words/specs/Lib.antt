@@ -6,6 +6,7 @@ pub mod Bits
 pub mod Sys
 pub mod Ports
 pub mod Units
+pub mod Right
 pub mod BusPart
 pub mod Access
 pub mod Script
