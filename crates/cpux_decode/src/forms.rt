@@ -39,7 +39,7 @@ pub enum Form {
     CallAtPlus,
     /// CALLA &abs20
     CallAbsolute,
-    /// CALLA to an address that is counted from the index word
+    /// CALLA to the address that stands at a distance from the index word
     CallSymbolic,
     /// CALLA #imm20
     CallImm,
