@@ -1,0 +1,5 @@
+pub mod Operands
+pub mod TwoOperands
+pub mod OneOperand
+pub mod Jumps
+pub mod Execution
