@@ -1,3 +1,2 @@
-pub mod Executions
 pub mod FirstMemory
 pub mod Printable

@@ -8,9 +8,10 @@ use Rattle.trace_print.specs.Lines.{IsPrintable}
 use Rattle.chip_core.specs.declared.boots.Place.{Place}
 use Rattle.chip_core.specs.declared.boots.Place.TheVariants.{Start, Sig, Done}
 use Rattle.chip_core.specs.declared.pins.Pins.{Pins}
+use Rattle.stimulus.specs.Stimulus.{Stimulus}
 use Rattle.chip_core.specs.State.{State}
 use Rattle.chip_core.specs.Pins.{pins_of, pin_lines, port_line, port_of, levels_of, same_pins}
-use Rattle.chip_core.specs.Tick.{powered, owned}
+use Rattle.chip_core.specs.Tick.{owned, ready}
 use Rattle.chip_core.specs.Lines.{lines_of, power_lines, boot_lines, turn_lines}
 
 none : All IsPrintable []
@@ -46,8 +47,8 @@ turn_lines-IsPrintable place before after =
     (All-append IsPrintable (boot_lines place after) (pin_lines before (pins_of after)) (boot_lines-IsPrintable place after)
     (All-append IsPrintable (port_line 1 before (pins_of after)) (port_line 2 before (pins_of after)) (port_line-IsPrintable 1 before (pins_of after) (omega arith) (omega arith)) (port_line-IsPrintable 2 before (pins_of after) (omega arith) (omega arith))))
 
-pub printable : (chip : State) → All IsPrintable (lines_of chip)
+pub printable : (bench : Stimulus) (chip : State) → All IsPrintable (lines_of bench chip)
 unfolding lines_of
-printable chip =
-    All-append IsPrintable (power_lines chip) (turn_lines (powered chip).boot (pins_of chip) (owned (powered chip))) (either chip.powered [] (On ∷ []) none (one On tt))
-    (turn_lines-IsPrintable (powered chip).boot (pins_of chip) (owned (powered chip)))
+printable bench chip =
+    All-append IsPrintable (power_lines chip) (turn_lines (ready bench chip).boot (pins_of chip) (owned (ready bench chip))) (either chip.powered [] (On ∷ []) none (one On tt))
+    (turn_lines-IsPrintable (ready bench chip).boot (pins_of chip) (owned (ready bench chip)))

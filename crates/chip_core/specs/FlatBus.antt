@@ -6,6 +6,9 @@ abbrev pub bus_part_of : Fabric → BusPart
 bus_part_of fabric = record {
   memory = (fabric.memory).items;
   units = record { sys = fabric.sys; ports = fabric.ports };
+  fill = fabric.fill;
+  budget = fabric.budget;
+  writes = fabric.writes;
   accesses = (fabric.accesses).items;
   stop = fabric.stop;
 }

@@ -5,9 +5,10 @@ use Rattle.trace_print.specs.declared.items.TraceItem.TheVariants.{On, Boot, Dea
 use Rattle.chip_core.specs.declared.boots.Place.{Place}
 use Rattle.chip_core.specs.declared.boots.Place.TheVariants.{Done}
 use Rattle.chip_core.specs.declared.pins.Pins.{Pins}
+use Rattle.stimulus.specs.Stimulus.{Stimulus}
 use Rattle.chip_core.specs.State.{State}
 use Rattle.chip_core.specs.Pins.{pins_of, pin_lines}
-use Rattle.chip_core.specs.Tick.{powered, owned}
+use Rattle.chip_core.specs.Tick.{owned, ready}
 
 -- ON: power came on
 abbrev pub power_lines : State → List TraceItem
@@ -23,5 +24,5 @@ abbrev pub turn_lines : Option Place → Pins → State → List TraceItem
 turn_lines place before after =
     if (after.bus).stop then Stop ∷ [] else boot_lines place after ++ pin_lines before (pins_of after)
 
-unfoldable pub lines_of : State → List TraceItem
-lines_of chip = power_lines chip ++ turn_lines (powered chip).boot (pins_of chip) (owned (powered chip))
+unfoldable pub lines_of : Stimulus → State → List TraceItem
+lines_of bench chip = power_lines chip ++ turn_lines (ready bench chip).boot (pins_of chip) (owned (ready bench chip))

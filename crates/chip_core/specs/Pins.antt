@@ -11,7 +11,7 @@ use Rattle.chip_core.specs.State.{State}
 
 -- the pins that are outputs and aren't locked
 abbrev pub outputs_of : Units → ℕ
-outputs_of units = if (units.sys).locked then 0 else (units.ports).direction
+outputs_of units = if (units.sys).locked then 0 else ((units.ports).first).direction
 
 -- the pins that the chip drives: these, while power is on
 abbrev pub driven_of : State → ℕ
@@ -19,7 +19,7 @@ driven_of chip = if chip.powered then outputs_of (chip.bus.units) else 0
 
 -- which pins are driven, and which of these are high, with P1 in bits 7:0 and P2 in bits 15:8
 unfoldable pub pins_of : State → Pins
-pins_of chip = record { driven = driven_of chip; high = bit_and ((chip.bus.units).ports).out (driven_of chip) }
+pins_of chip = record { driven = driven_of chip; high = bit_and (((chip.bus.units).ports).first).out (driven_of chip) }
 
 -- the bits of one port
 abbrev pub port_bits : ℕ → ℕ → ℕ

@@ -1,9 +1,10 @@
 ghost use Rattle.std.specs.Prelude.{◌≡◌, ◌+◌, ◌<◌, ◌≤◌, ◌++◌, [], All, None, IfOk};
 ghost use Rattle.trace_print.specs.Lines.{IsPrintable};
 ghost use Rattle.chip_core.specs.FirstState.{first_state};
+ghost use Rattle.stimulus.specs.Events.{IsPinAct};
 ghost use Rattle.arrayvec.specs.ArrayVec.{array_vec_len};
 ghost use Rattle.chip_core.specs.Pins.{pins_of};
-ghost use Rattle.chip_core.specs.Tick.{at_reset_vector, boot_turn, instructed, owned, powered, processor_turn, ticked};
+ghost use Rattle.chip_core.specs.Tick.{after_event, after_events, at_reset_vector, boot_turn, instructed, is_off as is_off_state, owned, powered, processor_turn, stimulated, ticked};
 ghost use Rattle.chip_core.specs.Lines.{lines_of, power_lines, boot_lines, turn_lines};
 
 use crate::Lines;
@@ -15,6 +16,7 @@ use chip_words::{NoMemory, Regs};
 use elf_image::Image;
 use std::alloc::Global;
 use std::marker::Model;
+use stimulus::{Bench, EventAct};
 use trace_print::TraceItem;
 
 /// The chip: the processor and its bus between two ticks.
@@ -44,11 +46,11 @@ impl Model for Chip {
 }
 
 impl Chip {
-    /// The chip before its first tick: power is off, and memory is as the image gives it.
-    pub fn build(alloc: Global, image: &Image<'_>) -> Result<Chip, NoMemory>
-        ensures { IfOk result (λ chip. chip ≡ first_state image.now) }
+    /// The chip before its first tick: power is off, FRAM is the image's, and SRAM is the bench's fill.
+    pub fn build(alloc: Global, image: &Image<'_>, bench: &Bench) -> Result<Chip, NoMemory>
+        ensures { IfOk result (λ chip. chip ≡ first_state image.now bench.now.fill) }
     {
-        let fabric = match Fabric::build(alloc, image) {
+        let fabric = match Fabric::build(alloc, image, bench.fill()) {
             Ok(fabric) => fabric,
             Err(e) => return Err(e),
         };
@@ -79,24 +81,26 @@ impl Chip {
         }
     }
 
-    /// Does the next tick, and puts its lines in place of those in `lines`.
+    /// Does the next tick under a bench, and puts its lines in place of those in `lines`.
     ///
     /// Where the chip would do something that isn't built, the lines end with STOP, and `is_stopped`
     /// says so.
     #[tactic(auto, using(crate::proofs::Printable::printable), unfolding(crate::specs::Tick::ticked, crate::specs::Lines::lines_of))]
-    pub fn tick(&mut self, lines: &mut Lines)
+    pub fn tick(&mut self, bench: &Bench, lines: &mut Lines)
         requires { (self.old).tick < 10000000 }
-        ensures chip { self.new ≡ ticked self.old }
-        ensures lines { lines.new.items ≡ lines_of self.old }
-        ensures printable { All IsPrintable (lines_of self.old) }
+        ensures chip { self.new ≡ ticked bench.now self.old }
+        ensures lines { lines.new.items ≡ lines_of bench.now self.old }
+        ensures printable { All IsPrintable (lines_of bench.now self.old) }
     {
         lines.clear();
         let next = self.tick + 1;
         let pins = self.pins();
         self.power(lines);
+        self.stimulate(bench);
         let place = self.boot;
         self.own();
         self.tell(place, &pins, lines);
+        self.fabric.end_tick();
         self.tick = next;
     }
 
@@ -152,6 +156,27 @@ impl Chip {
         }
     }
 
+    /// Does the events of the tick, in the order of the bench.
+    #[tactic(auto, unfolding(crate::specs::Tick::stimulated))]
+    fn stimulate(&mut self, bench: &Bench)
+        ensures { self.new ≡ stimulated bench.now self.old }
+    {
+        let events = bench.events(self.tick);
+        for event in events {
+            self.react(event.act);
+        }
+    }
+
+    /// Does one event.
+    fn react(&mut self, act: EventAct)
+        requires { IsPinAct act }
+        ensures { self.new ≡ after_event act self.old }
+    {
+        match act {
+            EventAct::Pin(port, bit, level) => self.fabric.drive(port, bit, level),
+        }
+    }
+
     /// The turn of the bus owner: the boot until it is done, and then the processor.
     #[tactic(auto, unfolding(crate::specs::Tick::owned))]
     fn own(&mut self)
@@ -194,9 +219,16 @@ impl Chip {
     {
         if self.busy > 0 {
             self.busy -= 1;
-        } else if !self.dead {
+        } else if !self.dead && !self.is_off() {
             self.instruct();
         }
+    }
+
+    /// CPUOFF of SR.
+    fn is_off(&self) -> bool
+        ensures { result ≡ is_off_state self.now }
+    {
+        (self.regs.get(2) >> 4) & 1 == 1
     }
 
     /// Executes one instruction.

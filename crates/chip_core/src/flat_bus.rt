@@ -1,20 +1,21 @@
-ghost use Rattle.std.specs.Prelude.{◌≡◌, ◌+◌, ◌-◌, ◌%◌, ◌<◌, ◌≤◌, [], ◌++◌, true, if◌then◌else◌, IfOk, length, replicate, vec_len};
+ghost use Rattle.std.specs.Prelude.{◌≡◌, ℕ, ◌+◌, ◌-◌, ◌%◌, ◌<◌, ◌≤◌, [], ◌++◌, None, true, false, if◌then◌else◌, IfOk, IsTrue, slice_index, length, replicate, vec_len};
 ghost use Rattle.chip_words.specs.Bits.{part_of, with_part};
 ghost use Rattle.chip_words.specs.Sizes.{IsByteOrWord, bytes_of, span};
 ghost use Rattle.chip_words.specs.BusPart.{HasRoom};
-ghost use Rattle.chip_words.specs.Map.{region_at, aligned as aligned_at};
+ghost use Rattle.chip_words.specs.Map.{region_at, is_sram, aligned as aligned_at};
+ghost use Rattle.chip_words.specs.Ports.{driven};
 ghost use Rattle.chip_words.specs.Memory.{loaded, memory_size as memory_size_of, stored};
-ghost use Rattle.chip_core.specs.FirstState.{first_bus, first_memory};
+ghost use Rattle.chip_core.specs.FirstState.{HoldsFirst, first_bus, first_memory};
 ghost use Rattle.chip_core.specs.Kinds.{is_write};
 ghost use Rattle.chip_words.specs.Units.{is_built as is_built_at, periph, units_at_reset, with_word, word_of};
-ghost use Rattle.chip_words.specs.Access.{access, blank as blank_of, entry_of, granted, is_beyond_boot as is_beyond_boot_of, is_low_start as is_low_start_of, made, ones as ones_of, replied};
+ghost use Rattle.chip_words.specs.Access.{blank as blank_of, entry_of, granted, is_beyond_boot as is_beyond_boot_of, is_low_start as is_low_start_of, is_over, judged, made, numbered, ones as ones_of, present, replied};
 
 use crate::port_pins::Ports;
 use crate::system::Sys;
 use arrayvec::ArrayVec;
 use chip_words::{Access, Agent, Bus, Kind, NoMemory, Size};
 use elf_image::Image;
-use memory_map::{MAIN_END, Region, aligned, is_fram, region_of};
+use memory_map::{MAIN_END, Region, SRAM_END, SRAM_START, aligned, is_fram, region_of};
 use std::alloc::Global;
 
 /// The bus part of the chip over one flat memory.
@@ -23,6 +24,9 @@ pub struct Fabric {
     memory: Vec<u8>,
     sys: Sys,
     ports: Ports,
+    fill: u8,
+    budget: Option<u32>,
+    writes: u32,
     accesses: ArrayVec<Access, 64>,
     stop: bool,
     ghost whole: { vec_len memory ≡ 0x14000 },
@@ -48,15 +52,46 @@ fn blank_memory(alloc: Global) -> Result<Vec<u8>, NoMemory>
     }
 }
 
-/// Memory as an image loads it, with SRAM 0.
-fn load_memory(alloc: Global, image: &Image<'_>) -> Result<Vec<u8>, NoMemory>
-    ensures memory { IfOk result (λ memory. memory.items ≡ first_memory image.now) }
+/// Fills the addresses from `low` up to `high`.
+fn fill_within(memory: &mut [u8], low: u32, high: u32, value: u8)
+    requires order { low ≤ high }
+    requires room { high ≤ length memory.old }
+    ensures inside { (at : ℕ) → low ≤ at → at < high → slice_index memory.new at ≡ value }
+    ensures below { (at : ℕ) → at < low → slice_index memory.new at ≡ slice_index memory.old at }
+    ensures above { (at : ℕ) → high ≤ at → slice_index memory.new at ≡ slice_index memory.old at }
+{
+    memory[low as usize..high as usize].fill(value);
+}
+
+/// Fills SRAM.
+#[tactic(auto, using(crate::proofs::FirstMemory::is_sram_tells))]
+fn fill_sram(memory: &mut [u8], value: u8)
+    requires { length memory.old ≡ MAIN_END }
+    ensures sram { (at : ℕ) → IsTrue (is_sram at) → slice_index memory.new at ≡ value }
+    ensures others { (at : ℕ) → is_sram at ≡ false → slice_index memory.new at ≡ slice_index memory.old at }
+{
+    fill_within(memory, SRAM_START, SRAM_END, value);
+}
+
+/// Writes what the addresses hold before the first tick into a memory.
+#[tactic(auto, using(crate::proofs::FirstMemory::first_bytes))]
+fn write_first(memory: &mut [u8], image: &Image<'_>, fill: u8)
+    requires { length memory.old ≡ MAIN_END }
+    ensures { HoldsFirst image.now fill memory.old memory.new }
+{
+    fill_sram(memory, fill);
+    image.load(memory);
+}
+
+/// Memory before the first tick.
+fn load_memory(alloc: Global, image: &Image<'_>, fill: u8) -> Result<Vec<u8>, NoMemory>
+    ensures memory { IfOk result (λ memory. memory.items ≡ first_memory image.now fill) }
     ensures whole { IfOk result (λ memory. vec_len memory ≡ 0x14000) }
 {
     match blank_memory(alloc) {
         Ok(blank) => {
             let mut memory = blank;
-            image.load(memory.as_mut_slice());
+            write_first(memory.as_mut_slice(), image, fill);
             Ok(memory)
         }
         Err(e) => Err(e),
@@ -179,10 +214,10 @@ impl Fabric {
     ghost use Rattle.chip_core.specs.FlatBus.{bus_part_of};
 
     /// The bus part before the first tick: memory as the image gives it, and the values of a BOR.
-    pub fn build(alloc: Global, image: &Image<'_>) -> Result<Fabric, NoMemory>
-        ensures { IfOk result (λ fabric. bus_part_of fabric ≡ first_bus image.now) }
+    pub fn build(alloc: Global, image: &Image<'_>, fill: u8) -> Result<Fabric, NoMemory>
+        ensures { IfOk result (λ fabric. bus_part_of fabric ≡ first_bus image.now fill) }
     {
-        let memory = match load_memory(alloc, image) {
+        let memory = match load_memory(alloc, image, fill) {
             Ok(memory) => memory,
             Err(e) => return Err(e),
         };
@@ -190,6 +225,9 @@ impl Fabric {
             memory,
             sys: Sys::at_reset(),
             ports: Ports::new(),
+            fill,
+            budget: None,
+            writes: 0,
             accesses: ArrayVec::new(),
             stop: false,
         })
@@ -203,11 +241,27 @@ impl Fabric {
         self.ports.reset();
     }
 
+    /// Sets the external level of pin `bit`, 0 to 7, of a port, 1 to 4.
+    pub fn drive(&mut self, port: u8, bit: u8, level: bool)
+        requires { bit < 8 }
+        ensures { bus_part_of self.new ≡ record (bus_part_of self.old) { units = record ((bus_part_of self.old).units) { ports = driven ((bus_part_of self.old).units.ports) port bit level } } }
+    {
+        self.ports.drive(port, bit, level);
+    }
+
     /// Ends a step: its accesses are no longer listed.
     pub fn end_step(&mut self)
         ensures { bus_part_of self.new ≡ record (bus_part_of self.old) { accesses = [] } }
     {
         self.accesses.clear();
+    }
+
+    /// Ends a tick: no write of it is counted any longer.
+    pub fn end_tick(&mut self)
+        ensures { bus_part_of self.new ≡ record (bus_part_of self.old) { budget = None; writes = 0 } }
+    {
+        self.budget = None;
+        self.writes = 0;
     }
 
     /// Notes that the chip met something that isn't built.
@@ -234,14 +288,14 @@ impl Fabric {
 
     /// OUT of P1 and P2.
     pub fn out(&self) -> u16
-        ensures { result ≡ ((bus_part_of self.now).units.ports).out }
+        ensures { result ≡ (((bus_part_of self.now).units.ports).first).out }
     {
         self.ports.out()
     }
 
     /// The pins of P1 and P2 that are outputs and aren't locked.
     pub fn outputs(&self) -> u16
-        ensures { result ≡ (if ((bus_part_of self.now).units.sys).locked then 0 else ((bus_part_of self.now).units.ports).direction) }
+        ensures { result ≡ (if ((bus_part_of self.now).units.sys).locked then 0 else (((bus_part_of self.now).units.ports).first).direction) }
     {
         if self.sys.is_locked() {
             0
@@ -290,7 +344,7 @@ impl Fabric {
         }
     }
 
-    /// What an access does by the region of its address, which is even for a word.
+    /// What an access that has its right does, by the region of its address, which is even for a word.
     fn grant(&mut self, kind: Kind, at: u32, size: Size, value: u32) -> u32
         requires place { at < 0x100000 }
         requires even { aligned_at size at ≡ at }
@@ -327,7 +381,35 @@ impl Fabric {
         }
     }
 
+    /// An access by the place that refuses it, if any does.
+    fn judge(
+        &mut self,
+        place: Option<u8>,
+        who: Agent,
+        kind: Kind,
+        at: u32,
+        size: Size,
+        value: u32,
+    ) -> u32
+        requires place { at < 0x100000 }
+        requires even { aligned_at size at ≡ at }
+        requires width { IsByteOrWord size }
+        requires fits { value < span size }
+        ensures small { result < span size }
+        ensures answer { result ≡ (judged place who kind at size value (bus_part_of self.old)).answer }
+        ensures chip { bus_part_of self.new ≡ (judged place who kind at size value (bus_part_of self.old)).chip }
+    {
+        if place.is_some() {
+            return read_only(kind, value, blank(size));
+        }
+        if is_beyond_boot(who, kind, at) {
+            return blank(size);
+        }
+        self.grant(kind, at, size, value)
+    }
+
     /// What an access at an aligned address does.
+    #[tactic(auto, unfolding(chip_words::specs::Right::refusal))]
     fn make(&mut self, who: Agent, kind: Kind, at: u32, size: Size, value: u32) -> u32
         requires place { at < 0x100000 }
         requires even { aligned_at size at ≡ at }
@@ -341,16 +423,14 @@ impl Fabric {
             self.stop = true;
             return 0;
         }
-        if is_beyond_boot(who, kind, at) {
-            return blank(size);
-        }
-        self.grant(kind, at, size, value)
+        self.judge(None, who, kind, at, size, value)
     }
 
     /// Adds an access to the step's list, but for the debugger's.
-    fn list(&mut self, who: Agent, kind: Kind, at: u32, size: Size, value: u32)
+    fn list(&mut self, who: Agent, kind: Kind, at: u32, size: Size, value: u32, done: bool)
         requires room { HasRoom who (bus_part_of self.old) }
-        ensures { bus_part_of self.new ≡ record (bus_part_of self.old) { accesses = (bus_part_of self.old).accesses ++ entry_of who kind at size value } }
+        ensures list { bus_part_of self.new ≡ record (bus_part_of self.old) { accesses = (bus_part_of self.old).accesses ++ entry_of who kind at size value done } }
+        ensures count { length (bus_part_of self.new).accesses ≤ length (bus_part_of self.old).accesses + 1 }
     {
         match who {
             Agent::Debug => {}
@@ -359,26 +439,38 @@ impl Fabric {
                 at,
                 size,
                 value,
+                done,
             }),
         }
     }
 
-    /// One access.
-    #[tactic(auto, unfolding(chip_words::specs::Access::access))]
+    /// An access that is present, at an aligned address.
     fn access(&mut self, who: Agent, kind: Kind, at: u32, size: Size, value: u32) -> u32
         requires place { at < 0x100000 }
+        requires even { aligned_at size at ≡ at }
         requires width { IsByteOrWord size }
         requires fits { value < span size }
         requires room { HasRoom who (bus_part_of self.old) }
         ensures small { result < span size }
-        ensures answer { result ≡ (access who kind at size value (bus_part_of self.old)).answer }
-        ensures chip { bus_part_of self.new ≡ (access who kind at size value (bus_part_of self.old)).chip }
+        ensures answer { result ≡ (present who kind at size value (bus_part_of self.old)).answer }
+        ensures chip { bus_part_of self.new ≡ (present who kind at size value (bus_part_of self.old)).chip }
         ensures count { length (bus_part_of self.new).accesses ≤ length (bus_part_of self.old).accesses + 1 }
     {
-        let at = aligned(at, size);
         let answer = self.make(who, kind, at, size, value);
-        self.list(who, kind, at, size, answer);
+        self.list(who, kind, at, size, answer, true);
         answer
+    }
+
+    /// Takes the number of the next write, and says whether the write is absent.
+    fn number(&mut self) -> bool
+        ensures chip { bus_part_of self.new ≡ numbered (bus_part_of self.old) }
+        ensures absent { result ≡ is_over (numbered (bus_part_of self.old)).budget (numbered (bus_part_of self.old)).writes }
+    {
+        self.writes = self.writes.saturating_add(1);
+        match self.budget {
+            Some(budget) => budget < self.writes,
+            None => false,
+        }
     }
 }
 
@@ -404,15 +496,29 @@ impl Bus for Fabric {
 
     ghost chip = { bus_part_of };
 
+    #[tactic(auto, unfolding(chip_words::specs::Access::access))]
     fn fetch(&mut self, ia: u32, at: u32) -> u16 {
-        self.access(Agent::Cpu(ia), Kind::Fetch, at, Size::Word, 0) as u16
+        self.access(
+            Agent::Cpu(ia),
+            Kind::Fetch,
+            aligned(at, Size::Word),
+            Size::Word,
+            0,
+        ) as u16
     }
 
+    #[tactic(auto, unfolding(chip_words::specs::Access::access))]
     fn read(&mut self, who: Agent, at: u32, size: Size) -> u32 {
-        self.access(who, Kind::Read, at, size, 0)
+        self.access(who, Kind::Read, aligned(at, size), size, 0)
     }
 
+    #[tactic(auto, unfolding(chip_words::specs::Access::access))]
     fn write(&mut self, who: Agent, at: u32, size: Size, value: u32) {
-        self.access(who, Kind::Write, at, size, value);
+        let at = aligned(at, size);
+        if self.number() {
+            self.list(who, Kind::Write, at, size, value, false);
+        } else {
+            self.access(who, Kind::Write, at, size, value);
+        }
     }
 }
