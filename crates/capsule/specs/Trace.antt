@@ -4,6 +4,7 @@ use Rattle.trace_print.specs.declared.items.TraceItem.{TraceItem}
 use Rattle.trace_print.specs.declared.items.TraceItem.TheVariants.{End}
 use Rattle.trace_print.specs.Lines.{line_of}
 use Rattle.elf_image.specs.Image.{Segment}
+use Rattle.stimulus.specs.Stimulus.{Stimulus}
 use Rattle.chip_core.specs.State.{State}
 use Rattle.chip_core.specs.FirstState.{first_state}
 use Rattle.chip_core.specs.Tick.{ticked}
@@ -16,11 +17,12 @@ text_of_lines tick (item ∷ items) = line_of tick item ++ text_of_lines tick it
 
 -- The text from a chip on, of so many more ticks. It is END after the last of them; where the chip met
 -- something that isn't built, the lines of that tick are the last.
-abbrev pub trace_from : ℕ → State → List ℕ
-trace_from zero chip = line_of chip.tick End
-trace_from (suc n) chip =
-    text_of_lines chip.tick (lines_of chip) ++ (if ((ticked chip).bus).stop then [] else trace_from n (ticked chip))
+abbrev pub trace_from : ℕ → Stimulus → State → List ℕ
+trace_from zero bench chip = line_of chip.tick End
+trace_from (suc n) bench chip =
+    text_of_lines chip.tick (lines_of bench chip)
+    ++ (if ((ticked bench chip).bus).stop then [] else trace_from n bench (ticked bench chip))
 
--- the text of an image's run of so many ticks
-unfoldable pub trace_of : ℕ → List Segment → List ℕ
-trace_of end image = trace_from end (first_state image)
+-- the text of an image's run under a bench
+unfoldable pub trace_of : Stimulus → List Segment → List ℕ
+trace_of bench image = trace_from bench.end bench (first_state image bench.fill)

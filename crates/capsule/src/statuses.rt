@@ -3,6 +3,7 @@ ghost use Rattle.capsule.specs.Exits.{exit_of};
 
 use elf_image::ImageRefused;
 use std::fmt;
+use stimulus::BenchRefused;
 
 /// How a call of the program ended.
 #[derive(Clone, Copy, Debug, PartialEq, Eq)]
@@ -19,6 +20,8 @@ pub enum Status {
     TooLong,
     /// A file is no image, and why.
     Image(ImageRefused),
+    /// A file is no bench, and why.
+    Bench(BenchRefused),
     /// The sink failed; a front of the text may be written.
     WriteFault,
     /// There was no memory; nothing was written.
@@ -26,7 +29,7 @@ pub enum Status {
 }
 
 impl Status {
-    /// The number that the process ends with. 1 and 7 are kept for commands that aren't built.
+    /// The number that the process ends with. 1 is kept for a command that isn't built.
     pub fn exit_number(self) -> u8
         ensures { result ≡ exit_of self }
     {
@@ -37,6 +40,7 @@ impl Status {
             Status::ReadFault => 4,
             Status::TooLong => 5,
             Status::Image(_) => 6,
+            Status::Bench(_) => 7,
             Status::WriteFault => 8,
             Status::NoMemory => 9,
         }
@@ -52,6 +56,7 @@ impl fmt::Display for Status {
             Status::ReadFault => "read fault",
             Status::TooLong => "too long",
             Status::Image(_) => "bad image",
+            Status::Bench(_) => "bad bench",
             Status::WriteFault => "write fault",
             Status::NoMemory => "no memory",
         })

@@ -4,6 +4,7 @@ use elf_image::ImageRefused;
 use std::alloc::{AllocError, Global};
 use std::process::Abort;
 use std::test::Fail;
+use stimulus::{BenchRefused, RootField};
 
 /// Clears the pin lock, makes P1.0 an output, sets it, and loops.
 const BLINK: [u16; 7] = [0xC392, 0x0130, 0x43D2, 0x0204, 0x43D2, 0x0202, 0x3FFF];
@@ -43,12 +44,13 @@ fn image(alloc: Global, stretches: &[(u32, &[u16])]) -> Result<Vec<u8>, AllocErr
     Ok(file)
 }
 
-/// What comes of some words, a file named `image`, the calls of the shelf and of the sink that are to
-/// fail (0 for none), and the sink's room.
+/// What comes of some words, files named `image` and `bench`, the calls of the shelf and of the sink that
+/// are to fail (0 for none), and the sink's room.
 #[derive(Clone, Copy)]
 struct Case<'a> {
     words: &'a [&'a str],
     file: &'a [u8],
+    bench: &'a str,
     shelf_fails: u64,
     sink_fails: u64,
     room: usize,
@@ -69,6 +71,7 @@ impl Case<'_> {
         }
         let mut shelf = MemShelf::build(alloc)?;
         shelf.add("image", self.file)?;
+        shelf.add("bench", self.bench.as_bytes())?;
         shelf.fail(self.shelf_fails)?;
         let mut out = MemSink::build(alloc, self.room)?;
         out.fail(self.sink_fails)?;
@@ -83,6 +86,7 @@ fn run_of(file: &[u8]) -> Case<'_> {
     Case {
         words: &["run", "image"],
         file,
+        bench: "",
         shelf_fails: 0,
         sink_fails: 0,
         room: 4096,
@@ -95,10 +99,17 @@ fn writes_the_trace_of_an_image(rt: HostRuntime) -> Result<(), Fail> {
     let blink = image(alloc, &[(0x4400, &BLINK), (0xFFFE, &VECTOR)])?;
     run_of(blink.as_slice()).gives(&rt, Status::Done, BLINK_TRACE)?;
 
-    // RETI isn't built.
+    // A first header that maps the file's head to an address that isn't FRAM is passed over.
+    let headed = image(
+        alloc,
+        &[(0x4000, &[0; 58]), (0x4400, &BLINK), (0xFFFE, &VECTOR)],
+    )?;
+    run_of(headed.as_slice()).gives(&rt, Status::Done, BLINK_TRACE)?;
+
+    // 1301h is no instruction, and the reset that it causes isn't built.
     let unbuilt = image(
         alloc,
-        &[(0x4400, &[0xC392, 0x0130, 0x1300]), (0xFFFE, &VECTOR)],
+        &[(0x4400, &[0xC392, 0x0130, 0x1301]), (0xFFFE, &VECTOR)],
     )?;
     run_of(unbuilt.as_slice()).gives(&rt, Status::Done, "0 ON\n2 BOOT 00 00000 00000\n7 STOP\n")?;
 
@@ -130,7 +141,7 @@ fn refuses_by_cause(rt: HostRuntime) -> Result<(), Fail> {
     usage(&[]).gives(&rt, Status::Usage, "")?;
     usage(&["run"]).gives(&rt, Status::Usage, "")?;
     usage(&["walk", "image"]).gives(&rt, Status::Usage, "")?;
-    usage(&["run", "image", "image"]).gives(&rt, Status::Usage, "")?;
+    usage(&["run", "image", "bench", "bench"]).gives(&rt, Status::Usage, "")?;
     usage(&["RUN", "image"]).gives(&rt, Status::Usage, "")?;
     usage(&["", "image"]).gives(&rt, Status::Usage, "")?;
     Case {
@@ -162,5 +173,80 @@ fn refuses_by_cause(rt: HostRuntime) -> Result<(), Fail> {
         ..run_of(file)
     }
     .gives(&rt, Status::WriteFault, "0 ON\n2 BOO")?;
+    Ok(())
+}
+
+/// Makes P2 an output that shows P1, and copies P1 to it for ever.
+const FOLLOW: [u16; 8] = [
+    0xC392, 0x0130, 0x43F2, 0x0205, 0x42D2, 0x0200, 0x0203, 0x3FFC,
+];
+
+fn run_under<'a>(file: &'a [u8], bench: &'a str) -> Case<'a> {
+    Case {
+        words: &["run", "image", "bench"],
+        bench,
+        ..run_of(file)
+    }
+}
+
+#[test]
+fn runs_under_a_bench(rt: HostRuntime) -> Result<(), Fail> {
+    let follow = image(rt.alloc(), &[(0x4400, &FOLLOW), (0xFFFE, &VECTOR)])?;
+    let file = follow.as_slice();
+    // The event comes before the instruction of its tick, which copies P1 to P2.
+    let bench = "version = 1\nend = 30\n[[event]]\ntick = 24\npin = \"P1.3\"\nlevel = 1\n";
+    let text = "0 ON\n2 BOOT 00 00000 00000\n7 PIN P2 00000000\n24 PIN P2 00001000\n30 END\n";
+    run_under(file, bench).gives(&rt, Status::Done, text)?;
+
+    // The image decides before the bench.
+    run_under(file, "=").gives(&rt, Status::Bench(BenchRefused::NotToml), "")?;
+    run_under(&[], "=").gives(&rt, Status::Image(ImageRefused::Short(52, 0)), "")?;
+    let no_end = Status::Bench(BenchRefused::Field(RootField::End));
+    run_under(file, "version = 1").gives(&rt, no_end, "")?;
+    Case {
+        words: &["run", "image", "none"],
+        ..run_of(file)
+    }
+    .gives(&rt, Status::Absent, "")?;
+    // The find of the bench, and its first read.
+    for shelf_fails in 4..=5 {
+        Case {
+            shelf_fails,
+            ..run_under(file, bench)
+        }
+        .gives(&rt, Status::ReadFault, "")?;
+    }
+    Ok(())
+}
+
+#[test]
+fn executes_calls_loops_and_the_stack(rt: HostRuntime) -> Result<(), Fail> {
+    // SP is 2400h. R5 counts from 3 to 0 in a loop of DEC (SUB #1) and JNZ; the pins are toggled by a
+    // routine that is called each time and saves R5 on the stack.
+    let code = [
+        0x4031, 0x2400, // 4400: MOV #2400h, SP     2 cycles, tick 3
+        0xC392, 0x0130, // 4404: BIC #1, &PM5CTL0   4 cycles, tick 5
+        0x43D2, 0x0204, // 4408: MOV.B #1, &P1DIR   3 cycles, tick 9
+        0x4035, 0x0003, // 440C: MOV #3, R5         2 cycles, tick 12
+        0x12B0, 0x4420, // 4410: CALL #4420h        4 cycles, ticks 14, 36, 58
+        0x8315, // 4414: SUB #1, R5                 1 cycle
+        0x23FC, // 4416: JNZ 4410h                  2 cycles
+        0x3FFF, // 4418: JMP $
+    ];
+    let routine = [
+        0x1205, // 4420: PUSH R5                    3 cycles
+        0x4035, 0x0001, // 4422: MOV #1, R5         2 cycles
+        0xE5C2, 0x0202, // 4426: XOR.B R5, &P1OUT   4 cycles
+        0x4135, // 442A: MOV @SP+, R5               2 cycles
+        0x4130, // 442C: MOV @SP+, PC               4 cycles
+    ];
+    let file = image(
+        rt.alloc(),
+        &[(0x4400, &code), (0x4420, &routine), (0xFFFE, &VECTOR)],
+    )?;
+    // A turn takes 4 + 3 + 2 + 4 + 2 + 4 + 1 + 2 = 22 ticks, and its XOR is in the tenth.
+    let text =
+        "0 ON\n2 BOOT 00 00000 00000\n9 PIN P1 zzzzzzz0\n23 PIN P1 zzzzzzz1\n45 PIN P1 zzzzzzz0\n67 PIN P1 zzzzzzz1\n1000 END\n";
+    run_of(file.as_slice()).gives(&rt, Status::Done, text)?;
     Ok(())
 }

@@ -6,6 +6,7 @@ ghost use Rattle.capsule.specs.Trace.{text_of_lines, trace_from};
 
 use bench_io::{PutFailed, Sink, put_all};
 use chip_core::{Chip, Lines};
+use stimulus::Bench;
 use trace_print::{TraceItem, trace_line};
 
 /// Writes one line.
@@ -36,18 +37,23 @@ fn put_lines<K: Sink>(tick: u32, items: &[TraceItem], out: &mut K) -> Result<(),
     Ok(())
 }
 
-/// Runs a chip up to the tick `end`, and writes the trace as it comes.
-pub fn write_trace<K: Sink>(chip: &mut Chip, end: u32, out: &mut K) -> Result<(), PutFailed>
+/// Runs a chip under a bench up to the tick `end`, and writes the trace as it comes.
+pub fn write_trace<K: Sink>(
+    chip: &mut Chip,
+    bench: &Bench,
+    end: u32,
+    out: &mut K,
+) -> Result<(), PutFailed>
     requires first { (chip.old).tick ≡ 0 }
     requires last { end ≤ 10000000 }
-    ensures whole { OnOk result (K.written out.new ≡ appended (K.written out.old) (trace_from end chip.old)) }
+    ensures whole { OnOk result (K.written out.new ≡ appended (K.written out.old) (trace_from end bench.now chip.old)) }
     ensures uncounted { OnOk result (K.faults out.new ≡ K.faults out.old) }
     ensures fault { OnErr result (Rose (K.faults out.old) (K.faults out.new)) }
-    ensures front { OnErr result (AppendsFront (K.written out.old) (K.written out.new) (trace_from end chip.old)) }
+    ensures front { OnErr result (AppendsFront (K.written out.old) (K.written out.new) (trace_from end bench.now chip.old)) }
 {
     let mut lines = Lines::new();
     for n in 0..end {
-        chip.tick(&mut lines);
+        chip.tick(bench, &mut lines);
         match put_lines(n, lines.as_slice(), out) {
             Ok(()) => {}
             Err(e) => return Err(e),

@@ -6,7 +6,7 @@ use Rattle.capsule.proofs.trace.write_trace.Given as goal
 -- the text of the ticks before this one is written
 abbrev pub invariant-loop-n : goal.invariant-loop-n
 invariant-loop-n g l = record {
-  text : IsWriting (g.K.Sink.written l.fn.out) (g.K.Sink.written l.out) (trace_from l.end l.fn.chip) (trace_from (l.end - l.n) l.chip);
+  text : IsWriting (g.K.Sink.written l.fn.out) (g.K.Sink.written l.out) (trace_from l.end l.bench l.fn.chip) (trace_from (l.end - l.n) l.bench l.chip);
   uncounted : g.K.Sink.faults l.out ≡ g.K.Sink.faults l.fn.out;
   same_tick : (l.chip).tick ≡ l.n;
 }
