@@ -250,3 +250,112 @@ fn executes_calls_loops_and_the_stack(rt: HostRuntime) -> Result<(), Fail> {
     run_of(file.as_slice()).gives(&rt, Status::Done, text)?;
     Ok(())
 }
+
+/// Code at 4400h with the reset vector that leads to it, and words elsewhere; the lines behind the boot's.
+#[derive(Clone, Copy)]
+struct Program<'a> {
+    code: &'a [u16],
+    elsewhere: (u32, &'a [u16]),
+    lines: &'a str,
+}
+
+/// Clears the pin lock in ticks 3 to 6, and makes P1 an output in ticks 7 to 9.
+const SHOW_P1: [u16; 4] = [0xC392, 0x0130, 0x43F2, 0x0204];
+
+#[test]
+fn executes_the_msp430x(rt: HostRuntime) -> Result<(), Fail> {
+    let repeated = [
+        0x4035, 0x0003, // MOV #3, R5               2 cycles, tick 10
+        0x4036, 0x0001, // MOV #1, R6               2 cycles, tick 12
+        0x1843, 0x5506, // RPT #4: ADDX R5, R6      5 cycles, tick 14
+        0x46C2, 0x0202, // MOV.B R6, &P1OUT         tick 19: 1 + 4 * 3
+        0x3FFF, // JMP $
+    ];
+    let count_in_a_register = [
+        0x0085, 0x8001, // MOVA #8001h, R5          2 cycles, tick 10
+        0x0086, 0x0003, // MOVA #3, R6              2 cycles, tick 12
+        0xD312, // BIS #1, SR                       1 cycle, tick 14
+        0x19C6, 0x1005, // RPT R6: RRUX R5          5 cycles, tick 15: four times, and 0 enters each time
+        0x1085, // SWPB R5                          1 cycle, tick 20
+        0x45C2, 0x0202, // MOV.B R5, &P1OUT         tick 21: the upper byte of 0800h
+        0x3FFF, // JMP $
+    ];
+    let stack = [
+        0x0081, 0x2400, // MOVA #2400h, SP          2 cycles, tick 10
+        0x0185, 0x2345, // MOVA #12345h, R5         2 cycles, tick 12
+        0x0086, 0xABCD, // MOVA #0ABCDh, R6         2 cycles, tick 14
+        0x1416, // PUSHM.A #2, R6                   6 cycles, tick 16
+        0x1617, // POPM.A #2, R7                    6 cycles, tick 22: R7 is R5's value, and R8 is R6's
+        0x48C2, 0x0202, // MOV.B R8, &P1OUT         3 cycles, tick 28: CDh
+        0x0F47, // RRUM.A #4, R7                    4 cycles, tick 31
+        0x0F47, // RRUM.A #4, R7                    4 cycles, tick 35
+        0x0F47, // RRUM.A #4, R7                    4 cycles, tick 39
+        0x0F47, // RRUM.A #4, R7                    4 cycles, tick 43
+        0x47C2, 0x0202, // MOV.B R7, &P1OUT         tick 47: bits 19:16
+        0x3FFF, // JMP $
+    ];
+    let far_call = [
+        0x0081, 0x2400, // MOVA #2400h, SP          2 cycles, tick 10
+        0x13B1, 0x0000, // CALLA #10000h            5 cycles, tick 12
+        0x43E2, 0x0202, // MOV.B #2, &P1OUT         tick 25
+        0x3FFF, // JMP $
+    ];
+    let far_routine = [
+        0x43D2, 0x0202, // MOV.B #1, &P1OUT         3 cycles, tick 17
+        0x0110, // MOVA @SP+, PC                    5 cycles, tick 20
+    ];
+    let memory = [
+        0x0F85, 0x1234, // MOVA #F1234h, R5         2 cycles, tick 10
+        0x0186, 0x0001, // MOVA #10001h, R6         2 cycles, tick 12
+        0x1800, 0x45C2, 0x1C00, // MOVX.A R5, &1C00h  5 cycles, tick 14
+        0x42D2, 0x1C02, 0x0202, // MOV.B &1C02h, &P1OUT  5 cycles, tick 19: bits 19:16 stand two bytes above
+        0x1800, 0x5256, 0x1C00, // ADDX.A &1C00h, R6  5 cycles, tick 24: 101235h, which sets the carry
+        0x2C01, // JC over the next word            2 cycles, tick 29
+        0x3FFF, // JMP $
+        0x46C2, 0x0202, // MOV.B R6, &P1OUT         tick 31: 35h
+        0x3FFF, // JMP $
+    ];
+    for program in [
+        Program {
+            code: &repeated,
+            elsewhere: (0x4800, &[]),
+            lines: "19 PIN P1 00001101\n",
+        },
+        Program {
+            code: &count_in_a_register,
+            elsewhere: (0x4800, &[]),
+            lines: "21 PIN P1 00001000\n",
+        },
+        Program {
+            code: &stack,
+            elsewhere: (0x4800, &[]),
+            lines: "28 PIN P1 11001101\n47 PIN P1 00000001\n",
+        },
+        Program {
+            code: &far_call,
+            elsewhere: (0x1_0000, &far_routine),
+            lines: "17 PIN P1 00000001\n25 PIN P1 00000010\n",
+        },
+        Program {
+            code: &memory,
+            elsewhere: (0x4800, &[]),
+            lines: "19 PIN P1 00001111\n31 PIN P1 00110101\n",
+        },
+    ] {
+        let alloc = rt.alloc();
+        let file = image(
+            alloc,
+            &[
+                (0x4400, &SHOW_P1),
+                (0x4408, program.code),
+                program.elsewhere,
+                (0xFFFE, &VECTOR),
+            ],
+        )?;
+        let mut text = String::from_str(alloc, "0 ON\n2 BOOT 00 00000 00000\n7 PIN P1 00000000\n")?;
+        text.push_str(program.lines)?;
+        text.push_str("1000 END\n")?;
+        run_of(file.as_slice()).gives(&rt, Status::Done, text.as_str())?;
+    }
+    Ok(())
+}

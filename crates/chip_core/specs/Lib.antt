@@ -1,6 +1,5 @@
 pub mod FlatBus
 pub mod Kinds
-pub mod Instruction
 pub mod Boot
 pub mod State
 pub mod FirstState

@@ -17,10 +17,11 @@ use Rattle.stimulus.specs.Stimulus.{Stimulus}
 use Rattle.chip_core.specs.declared.boots.Place.{Place}
 use Rattle.chip_core.specs.declared.boots.Place.TheVariants.{Start}
 use Rattle.chip_core.specs.declared.boots.BootStep.{BootStep}
-use Rattle.chip_core.specs.declared.boots.BootStep.TheVariants.{Going, Ended, NotBuilt as BootNotBuilt}
-use Rattle.chip_core.specs.declared.instructions.Outcome.{Outcome}
-use Rattle.chip_core.specs.declared.instructions.Outcome.TheVariants.{Cycles, NotBuilt}
-use Rattle.chip_core.specs.Instruction.{Stepped, instruction}
+use Rattle.chip_core.specs.declared.boots.BootStep.TheVariants.{Going, Ended, NotBuilt}
+use Rattle.cpux_execute.specs.declared.outcomes.Outcome.{Outcome}
+use Rattle.cpux_execute.specs.declared.outcomes.Outcome.TheVariants.{Cycles, Reserved}
+use Rattle.cpux_execute.specs.Execution.{Stepped}
+use Rattle.cpux_extended.specs.Instruction.{instruction}
 use Rattle.chip_core.specs.Boot.{boot_step}
 use Rattle.chip_core.specs.State.{State}
 
@@ -75,7 +76,7 @@ at_reset_vector chip = record chip {
 abbrev pub after_boot_step : BootStep → State → State
 after_boot_step (Going place) chip = record chip { boot = Some place }
 after_boot_step Ended chip = record (at_reset_vector chip) { boot = None }
-after_boot_step BootNotBuilt chip = stopped chip
+after_boot_step NotBuilt chip = stopped chip
 
 abbrev pub boot_turn_from : Ran BootStep → State → State
 boot_turn_from ran chip = after_boot_step ran.value (record chip { bus = step_ended ran.chip })
@@ -83,10 +84,11 @@ boot_turn_from ran chip = after_boot_step ran.value (record chip { bus = step_en
 unfoldable pub boot_turn : Place → State → State
 boot_turn place chip = boot_turn_from (run Boot (boot_step place) chip.bus) chip
 
--- the processor is busy with an instruction for its cycles, of which the first is the tick that made it
+-- the processor is busy with an instruction for its cycles, of which the first is the tick that made it. The reset that
+-- a reserved word asks for isn't built.
 abbrev pub after_instruction : Outcome → State → State
 after_instruction (Cycles cycles) chip = record chip { busy = cycles - 1 }
-after_instruction NotBuilt chip = stopped chip
+after_instruction Reserved chip = stopped chip
 
 abbrev pub instructed_from : Ran Stepped → State → State
 instructed_from ran chip =

@@ -10,9 +10,9 @@ ghost use Rattle.chip_core.specs.Lines.{lines_of, power_lines, boot_lines, turn_
 use crate::Lines;
 use crate::boots::{self, BootStep, Place};
 use crate::flat_bus::Fabric;
-use crate::instructions::{self, Outcome};
 use crate::pins::Pins;
 use chip_words::{NoMemory, Regs};
+use cpux_extended::{Outcome, step};
 use elf_image::Image;
 use std::alloc::Global;
 use std::marker::Model;
@@ -236,11 +236,11 @@ impl Chip {
     fn instruct(&mut self)
         ensures { self.new ≡ instructed self.old }
     {
-        let outcome = instructions::step(&mut self.regs, &mut self.fabric);
+        let outcome = step(&mut self.regs, &mut self.fabric);
         self.fabric.end_step();
         match outcome {
             Outcome::Cycles(cycles) => self.busy = cycles.saturating_sub(1),
-            Outcome::NotBuilt => self.fabric.stop(),
+            Outcome::Reserved => self.fabric.stop(),
         }
     }
 }

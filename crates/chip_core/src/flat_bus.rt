@@ -1,10 +1,11 @@
 ghost use Rattle.std.specs.Prelude.{◌≡◌, ℕ, ◌+◌, ◌-◌, ◌%◌, ◌<◌, ◌≤◌, [], ◌++◌, None, true, false, if◌then◌else◌, IfOk, IsTrue, slice_index, length, replicate, vec_len};
+ghost use Rattle.memory_map.specs.declared.TheConstants.{MAIN_END};
 ghost use Rattle.chip_words.specs.Bits.{part_of, with_part};
-ghost use Rattle.chip_words.specs.Sizes.{IsByteOrWord, bytes_of, span};
+ghost use Rattle.chip_words.specs.Sizes.{IsByteOrWord, span};
 ghost use Rattle.chip_words.specs.BusPart.{HasRoom};
 ghost use Rattle.chip_words.specs.Map.{region_at, is_sram, aligned as aligned_at};
 ghost use Rattle.chip_words.specs.Ports.{driven};
-ghost use Rattle.chip_words.specs.Memory.{loaded, memory_size as memory_size_of, stored};
+ghost use Rattle.chip_words.specs.Memory.{loaded, memory_size as memory_size_of};
 ghost use Rattle.chip_core.specs.FirstState.{HoldsFirst, first_bus, first_memory};
 ghost use Rattle.chip_core.specs.Kinds.{is_write};
 ghost use Rattle.chip_words.specs.Units.{is_built as is_built_at, periph, units_at_reset, with_word, word_of};
@@ -13,7 +14,7 @@ ghost use Rattle.chip_words.specs.Access.{blank as blank_of, entry_of, granted, 
 use crate::port_pins::Ports;
 use crate::system::Sys;
 use arrayvec::ArrayVec;
-use chip_words::{Access, Agent, Bus, Kind, NoMemory, Size};
+use chip_words::{Access, Agent, Bus, Kind, NoMemory, Size, load, memory_size, store};
 use elf_image::Image;
 use memory_map::{MAIN_END, Region, SRAM_END, SRAM_START, aligned, is_fram, region_of};
 use std::alloc::Global;
@@ -29,22 +30,13 @@ pub struct Fabric {
     writes: u32,
     accesses: ArrayVec<Access, 64>,
     stop: bool,
-    ghost whole: { vec_len memory ≡ 0x14000 },
-}
-
-/// How many addresses memory has a place for.
-#[tactic(auto, unfolding(chip_words::specs::Memory::memory_size))]
-fn memory_size() -> usize
-    ensures size { result ≡ memory_size_of }
-    ensures number { result ≡ 0x14000 }
-{
-    MAIN_END as usize
+    ghost whole: { vec_len memory ≡ MAIN_END },
 }
 
 /// A memory that is 0 all over.
 fn blank_memory(alloc: Global) -> Result<Vec<u8>, NoMemory>
     ensures blank { IfOk result (λ memory. memory.items ≡ replicate memory_size_of 0) }
-    ensures whole { IfOk result (λ memory. vec_len memory ≡ 0x14000) }
+    ensures whole { IfOk result (λ memory. vec_len memory ≡ MAIN_END) }
 {
     match vec![in alloc; 0; memory_size()] {
         Ok(memory) => Ok(memory),
@@ -86,7 +78,7 @@ fn write_first(memory: &mut [u8], image: &Image<'_>, fill: u8)
 /// Memory before the first tick.
 fn load_memory(alloc: Global, image: &Image<'_>, fill: u8) -> Result<Vec<u8>, NoMemory>
     ensures memory { IfOk result (λ memory. memory.items ≡ first_memory image.now fill) }
-    ensures whole { IfOk result (λ memory. vec_len memory ≡ 0x14000) }
+    ensures whole { IfOk result (λ memory. vec_len memory ≡ MAIN_END) }
 {
     match blank_memory(alloc) {
         Ok(blank) => {
@@ -131,37 +123,6 @@ fn word_with_part(size: Size, at: u32, word: u16, value: u16) -> u16
             }
         }
         Size::Word | Size::Addr => value,
-    }
-}
-
-/// A value in memory.
-#[tactic(auto, unfolding(chip_words::specs::Memory::loaded))]
-fn load(memory: &[u8], at: usize, size: Size) -> u32
-    requires width { IsByteOrWord size }
-    requires place { at + bytes_of size ≤ length memory.now }
-    ensures value { result ≡ loaded memory.now at size }
-    ensures small { result < span size }
-{
-    match size {
-        Size::Byte => memory[at] as u32,
-        Size::Word | Size::Addr => memory[at] as u32 + 0x100 * memory[at + 1] as u32,
-    }
-}
-
-/// Writes a value to memory.
-#[tactic(auto, unfolding(chip_words::specs::Memory::stored))]
-fn store(memory: &mut [u8], at: usize, size: Size, value: u32)
-    requires width { IsByteOrWord size }
-    requires place { at + bytes_of size ≤ length memory.old }
-    requires fits { value < span size }
-    ensures { memory.new ≡ stored memory.old at size value }
-{
-    match size {
-        Size::Byte => memory[at] = (value & 0xFF) as u8,
-        Size::Word | Size::Addr => {
-            memory[at] = (value & 0xFF) as u8;
-            memory[at + 1] = ((value >> 8) & 0xFF) as u8;
-        }
     }
 }
 
@@ -364,7 +325,7 @@ impl Fabric {
 
     /// An access to memory.
     fn reach(&mut self, kind: Kind, at: u32, size: Size, value: u32) -> u32
-        requires place { at < 0x14000 }
+        requires place { at < MAIN_END }
         requires even { aligned_at size at ≡ at }
         requires width { IsByteOrWord size }
         requires fits { value < span size }

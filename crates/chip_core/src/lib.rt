@@ -7,7 +7,6 @@ use trace_print::TraceItem;
 mod boots;
 mod chips;
 mod flat_bus;
-mod instructions;
 mod pins;
 mod port_pins;
 mod system;

@@ -3,6 +3,8 @@ pub mod Map
 pub mod Memory
 pub mod Registers
 pub mod Bits
+pub mod Signed
+pub mod Decimals
 pub mod Sys
 pub mod Ports
 pub mod Units

@@ -4,7 +4,9 @@
 
 mod accesses;
 mod buses;
+mod decimals;
 mod memory;
+mod no_memory;
 mod regions;
 mod registers;
 mod sizes;
@@ -13,7 +15,9 @@ mod tests;
 
 pub use accesses::{Access, Agent, Kind};
 pub use buses::Bus;
-pub use memory::NoMemory;
+pub use decimals::bcd_add;
+pub use memory::{load, memory_size, store};
+pub use no_memory::NoMemory;
 pub use regions::Region;
 pub use registers::Regs;
-pub use sizes::{Size, wrap20};
+pub use sizes::{Size, signed, wrap20};

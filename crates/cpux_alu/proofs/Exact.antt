@@ -4,18 +4,19 @@ use Rattle.std.proofs.lemmas.Bool.Decides.{nat_tests}
 use Rattle.std.proofs.Math.Nat.{mul_assoc, pow-succ'}
 use Rattle.chip_words.specs.declared.sizes.Size.TheVariants.{Byte, Word, Addr}
 use Rattle.chip_words.specs.Bits.{bit_of}
+use Rattle.chip_words.specs.Decimals.{digit_of, lowest_sum, decimal_sum, decimal_carry}
+use Rattle.chip_words.specs.Signed.{signed_value}
 use Rattle.chip_words.specs.Sizes.{span}
 use Rattle.cpux_alu.specs.Effects.{complement}
-use Rattle.cpux_alu.specs.Sums.{signed, leaves_range, overflows}
-use Rattle.cpux_alu.specs.Decimals.{digit_of, lowest_sum, decimal_sum, decimal_carry}
+use Rattle.cpux_alu.specs.Sums.{leaves_range, overflows}
 use Rattle.cpux_alu.specs.Laws.{SignedSumIsExact, IsDifference, ComplementSubtracts, decimal_value, DecimalSumIsExact}
 use Rattle.cpux_alu.proofs.Overflow.{remainder_is}
 
-exact_at : (half span x y v : ℕ) (carry : Bool) → span ≡ 2 * half → x < span → y < span → (v ≡ x + y + bit_of carry) ⊎ (v + span ≡ x + y + bit_of carry) → v < span → overflows span x y carry ≡ false → signed span v ≡ (signed span x +ℤ signed span y) +ℤ pos (bit_of carry)
+exact_at : (half span x y v : ℕ) (carry : Bool) → span ≡ 2 * half → x < span → y < span → (v ≡ x + y + bit_of carry) ⊎ (v + span ≡ x + y + bit_of carry) → v < span → overflows span x y carry ≡ false → signed_value span v ≡ (signed_value span x +ℤ signed_value span y) +ℤ pos (bit_of carry)
 exact_at half span x y v true h a b s l o = grind (arith, nat_tests)
 exact_at half span x y v false h a b s l o = grind (arith, nat_tests)
 
-difference_at : (half span x y : ℕ) → span ≡ 2 * half → x < span → y < span → overflows span x (complement span y) true ≡ leaves_range span (signed span x -ℤ signed span y)
+difference_at : (half span x y : ℕ) → span ≡ 2 * half → x < span → y < span → overflows span x (complement span y) true ≡ leaves_range span (signed_value span x -ℤ signed_value span y)
 difference_at half span x y h a b = grind (arith, nat_tests)
 
 borrow_at : (span x y : ℕ) → x < span → y < span → nat_le span (x + complement span y + 1) ≡ nat_le y x
@@ -25,7 +26,7 @@ below_twice : (span x y : ℕ) (carry : Bool) → x < span → y < span → x + 
 below_twice span x y true a b = omega arith
 below_twice span x y false a b = omega arith
 
-exact : (half span x y : ℕ) (carry : Bool) → span ≡ 2 * half → 0 < span → x < span → y < span → overflows span x y carry ≡ false → signed span ((x + y + bit_of carry) % span) ≡ (signed span x +ℤ signed span y) +ℤ pos (bit_of carry)
+exact : (half span x y : ℕ) (carry : Bool) → span ≡ 2 * half → 0 < span → x < span → y < span → overflows span x y carry ≡ false → signed_value span ((x + y + bit_of carry) % span) ≡ (signed_value span x +ℤ signed_value span y) +ℤ pos (bit_of carry)
 exact half span x y carry h p a b o =
     exact_at half span x y ((x + y + bit_of carry) % span) carry h a b (remainder_is span (x + y + bit_of carry) _ (below_twice span x y carry a b) refl) (omega arith) o
 

@@ -2,24 +2,25 @@
 use Rattle.std.specs.Prelude.{◌≡◌, ℕ, zero, suc, ◌+◌, ◌*◌, ◌/◌, ◌%◌, ◌^◌, ◌<◌, pos, ◌+ℤ◌, ◌-ℤ◌, Bool, true, false, nat_le}
 use Rattle.chip_words.specs.declared.sizes.Size.{Size}
 use Rattle.chip_words.specs.Bits.{bit_of}
+use Rattle.chip_words.specs.Decimals.{decimal_sum, decimal_carry}
+use Rattle.chip_words.specs.Signed.{signed_value}
 use Rattle.chip_words.specs.Sizes.{span}
 use Rattle.cpux_decode.specs.declared.operations.OpS.TheVariants.{Rla, Rru}
 use Rattle.cpux_alu.specs.Effects.{complement}
-use Rattle.cpux_alu.specs.Sums.{signed, leaves_range, overflows}
-use Rattle.cpux_alu.specs.Decimals.{decimal_sum, decimal_carry}
+use Rattle.cpux_alu.specs.Sums.{leaves_range, overflows}
 use Rattle.cpux_alu.specs.Shifts.{with_carry, shift_places}
 
 -- without overflow a sum is the exact sum of the signed values and the carry
 abbrev pub SignedSumIsExact : Type 0
 SignedSumIsExact =
     (size : Size) (x y : ℕ) (carry : Bool) → x < span size → y < span size → overflows (span size) x y carry ≡ false →
-    signed (span size) ((x + y + bit_of carry) % span size) ≡ (signed (span size) x +ℤ signed (span size) y) +ℤ pos (bit_of carry)
+    signed_value (span size) ((x + y + bit_of carry) % span size) ≡ (signed_value (span size) x +ℤ signed_value (span size) y) +ℤ pos (bit_of carry)
 
 -- the sum with the complement and 1 is a difference: the carry says that there is no borrow, and the overflow that the
 -- exact difference of the signed values leaves the range
 pub record IsDifference (span x y : ℕ) : Type 0 where
   pub carry : nat_le span (x + complement span y + 1) ≡ nat_le y x
-  pub overflow : overflows span x (complement span y) true ≡ leaves_range span (signed span x -ℤ signed span y)
+  pub overflow : overflows span x (complement span y) true ≡ leaves_range span (signed_value span x -ℤ signed_value span y)
 
 abbrev pub ComplementSubtracts : Type 0
 ComplementSubtracts = (size : Size) (x y : ℕ) → x < span size → y < span size → IsDifference (span size) x y

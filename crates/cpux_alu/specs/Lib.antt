@@ -1,6 +1,5 @@
 pub mod Effects
 pub mod Sums
-pub mod Decimals
 pub mod Shifts
 pub mod Operations
 pub mod Addresses

@@ -4,6 +4,7 @@ use Rattle.std.specs.Prelude.{ℕ, ◌+◌, ◌*◌, ◌/◌, ◌%◌, Bool, tru
 use Rattle.chip_words.specs.declared.sizes.Size.{Size}
 use Rattle.chip_words.specs.declared.sizes.Size.TheVariants.{Addr}
 use Rattle.chip_words.specs.Bits.{has_bit}
+use Rattle.chip_words.specs.Decimals.{digits_of}
 use Rattle.chip_words.specs.Sizes.{span}
 use Rattle.cpux_decode.specs.declared.operations.Op1.{Op1}
 use Rattle.cpux_decode.specs.declared.operations.Op1.TheVariants as one
@@ -15,8 +16,7 @@ use Rattle.cpux_decode.specs.declared.operations.OpS.{OpS}
 use Rattle.cpux_decode.specs.declared.operations.OpS.TheVariants as shift
 use Rattle.cpux_alu.specs.declared.effects.Effect.{Effect}
 use Rattle.cpux_alu.specs.Effects.{is_negative, complement, extended_byte, with_logic_flags, without_flags, status_after}
-use Rattle.cpux_alu.specs.Sums.{sum_effect}
-use Rattle.cpux_alu.specs.Decimals.{digits_of, decimal_effect}
+use Rattle.cpux_alu.specs.Sums.{sum_effect, decimal_effect}
 use Rattle.cpux_alu.specs.Shifts.{with_carry, shift_once, shift_places, shift_effect}
 
 -- the operations of two operands below the span of a width, with the carry of the status register

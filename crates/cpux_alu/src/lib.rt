@@ -8,7 +8,6 @@ ghost use Rattle.chip_words.specs.Sizes.{span};
 ghost use Rattle.cpux_alu.specs.Addresses.{near_address};
 ghost use Rattle.cpux_alu.specs.Operations.{GivesResult, addr_status, addr_value, one_effect, one_status, one_value, shift_status, shift_value, two_effect, two_status, two_value};
 
-mod decimals;
 mod effects;
 mod laws;
 mod shifts;
@@ -18,11 +17,10 @@ mod tests;
 mod widths;
 
 use cpux_decode::{Op1, Op2, OpA, OpS, Size};
-use decimals::decimal_sum;
 use effects::{Effect, status, with_logic_flags, without_flags};
 pub use laws::{complement_subtracts, decimal_sum_is_exact, shifts_scale, signed_sum_is_exact};
 use shifts::{Shifted, shift_once, shift_places, shift_result};
-use sums::sum;
+use sums::{decimal_sum, sum};
 use widths::{complement, extended_byte, is_negative, mask};
 
 /// Bit C of the status register.

@@ -1,9 +1,11 @@
 ghost use Rattle.std.specs.Prelude.{◌≡◌, ◌<◌};
 ghost use Rattle.chip_words.specs.Sizes.{span};
-ghost use Rattle.cpux_alu.specs.Sums.{sum_effect};
+ghost use Rattle.chip_words.specs.Decimals.{digits_of};
+ghost use Rattle.cpux_alu.specs.Sums.{decimal_effect, sum_effect};
 
 use crate::effects::{Effect, with_flags};
 use crate::widths::{is_negative, mask};
+use chip_words::bcd_add;
 use cpux_decode::Size;
 
 /// The sum of two numbers and a carry.
@@ -20,4 +22,13 @@ pub fn sum(size: Size, x: u32, y: u32, carry: bool) -> Effect
     // The exact sum leaves the range where two numbers of one sign give the other sign.
     let overflow = sign == is_negative(size, y) && sign != is_negative(size, value);
     with_flags(size, value, total > mask(size), overflow)
+}
+
+/// The decimal sum of two numbers and a carry.
+pub fn decimal_sum(size: Size, x: u32, y: u32, carry: bool) -> Effect
+    ensures effect { result ≡ decimal_effect (span size) (digits_of size) x y carry }
+    ensures range { result.value < span size }
+{
+    let (value, carry) = bcd_add(size, x, y, carry);
+    with_flags(size, value, carry, false)
 }

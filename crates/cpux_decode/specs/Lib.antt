@@ -1,6 +1,8 @@
 pub mod Rows
 pub mod Table
 pub mod Branches
+pub mod Operations
+pub mod Places
 pub mod Operands
 pub mod Instructions
 pub mod Ranges

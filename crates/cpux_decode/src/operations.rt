@@ -1,3 +1,5 @@
+ghost use Rattle.std.specs.Prelude.{◌≡◌};
+
 /// The operations of two operands.
 #[derive(Clone, Copy, Debug, PartialEq, Eq)]
 pub enum Op2 {
@@ -13,6 +15,26 @@ pub enum Op2 {
     Bis,
     Xor,
     And,
+}
+
+impl Op2 {
+    ghost use Rattle.cpux_decode.specs.Operations.{reads_destination as reads_destination_of, writes_destination as writes_destination_of};
+
+    /// Says whether the operation reads its destination: all but MOV do.
+    #[tactic(auto, unfolding(crate::specs::Operations::reads_destination))]
+    pub fn reads_destination(self) -> bool
+        ensures { result ≡ reads_destination_of self }
+    {
+        !matches!(self, Op2::Mov)
+    }
+
+    /// Says whether the operation writes its destination: all but CMP and BIT do.
+    #[tactic(auto, unfolding(crate::specs::Operations::writes_destination))]
+    pub fn writes_destination(self) -> bool
+        ensures { result ≡ writes_destination_of self }
+    {
+        !matches!(self, Op2::Cmp | Op2::Bit)
+    }
 }
 
 /// The operations of one operand.

@@ -1,11 +1,11 @@
 -- Where an operand is, and how it is read and written (SLAU367, chapter CPUX, addressing modes).
-use Rattle.std.specs.Prelude.{ℕ, ◌+◌, ◌%◌, ◌<◌, ◌==◌, ◌||◌, Bool, false, if◌then◌else◌, List, slice_index}
+use Rattle.std.specs.Prelude.{ℕ, ◌+◌, ◌*◌, ◌/◌, ◌%◌, ◌<◌, ◌==◌, ◌||◌, Bool, false, if◌then◌else◌, List, slice_index}
 use Rattle.chip_words.specs.declared.sizes.Size.{Size}
 use Rattle.chip_words.specs.declared.sizes.Size.TheVariants.{Byte, Word, Addr}
 use Rattle.chip_words.specs.declared.accesses.Kind.TheVariants.{Read, Write}
 use Rattle.chip_words.specs.Sizes.{span}
 use Rattle.chip_words.specs.Registers.{with_register}
-use Rattle.chip_words.specs.Script.{Script, Return, Ask}
+use Rattle.chip_words.specs.Script.{Script, Return, Ask, and_then}
 use Rattle.cpux_decode.specs.declared.places.Place.{Place}
 use Rattle.cpux_decode.specs.declared.places.Place.TheVariants.{Reg, Const, Near, Far, Absolute, At, AtPlus, Imm}
 use Rattle.cpux_alu.specs.Addresses.{near_address}
@@ -23,9 +23,29 @@ address_of registers pc (At r) = register_at registers pc r
 address_of registers pc (AtPlus r) = register_at registers pc r
 address_of registers pc place = 0
 
--- a read in memory, whose answer is the value
-abbrev pub asked : ℕ → Size → Script ℕ
+-- two bytes behind an address
+abbrev pub above : ℕ → ℕ
+above at = (at + 2) % 0x100000
+
+-- 20 bits of two words: 15:0 of the lower, and 19:16 in bits 3:0 of the higher
+abbrev pub joined : ℕ → ℕ → ℕ
+joined low high = low + 0x10000 * (high % 0x10)
+
+-- how many accesses a value in memory takes
+abbrev pub accesses_of : Size → ℕ
+accesses_of Addr = 2
+accesses_of size = 1
+
+-- the value in memory at an address. 20 bits are the word there, and then the word above it.
+unfoldable pub asked : ℕ → Size → Script ℕ
+asked at Addr = Ask Read at Word 0 (λ low. Ask Read (above at) Word 0 (λ high. Return (joined low high)))
 asked at size = Ask Read at size 0 (λ answer. Return answer)
+
+-- a value written in memory at an address. 20 bits are written low word first.
+unfoldable pub put : ℕ → Size → ℕ → Script (Unit {0})
+put at Addr value =
+    Ask Write at Word (value % 0x10000) (λ low. Ask Write (above at) Word (value / 0x10000) (λ high. Return tt))
+put at size value = Ask Write at size value (λ answer. Return tt)
 
 -- the value of a source. PC stands behind the instruction word, which is where an index word of the source is.
 unfoldable pub source : Size → List ℕ → ℕ → Place → Script ℕ
@@ -53,7 +73,7 @@ target size registers at place = asked at size
 -- a value written to a destination: a register, or memory at an address. The script's value is the registers.
 unfoldable pub stored_to : Size → List ℕ → ℕ → Place → ℕ → Script (List ℕ)
 stored_to size registers at (Reg r) value = Return (with_register registers r value)
-stored_to size registers at place value = Ask Write at size value (λ answer. Return registers)
+stored_to size registers at place value = and_then (put at size value) (λ done. Return registers)
 
 unfoldable pub is_status : Place → Bool
 is_status (Reg r) = r == 2

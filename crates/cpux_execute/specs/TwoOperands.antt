@@ -6,7 +6,7 @@ use Rattle.chip_words.specs.Script.{Script, Return, and_then}
 use Rattle.cpux_decode.specs.declared.places.Place.{Place}
 use Rattle.cpux_decode.specs.declared.operations.Op2.{Op2}
 use Rattle.cpux_alu.specs.Operations.{two_value, two_status}
-use Rattle.cycle_table.specs.Cycles.{reads_destination, writes_destination}
+use Rattle.cpux_decode.specs.Operations.{reads_destination, writes_destination}
 use Rattle.cpux_execute.specs.Operands.{address_of, before, flagged, increased, source, stored_to, target}
 
 -- a destination that isn't read counts as 0

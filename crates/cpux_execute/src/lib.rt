@@ -1,47 +1,34 @@
-//! The instructions of the MSP430 over any bus: their accesses, and the registers that they leave.
+//! The instructions of the MSP430 over any bus: their accesses, the registers that they leave, and their cycles.
+//!
+//! Operands are read, written and pushed at each width, so that the instructions of 20 bits are made of the same parts.
 #![tactic(auto)]
 
-ghost use Rattle.std.specs.Prelude.{◌≡◌, ◌+◌, ◌%◌, ◌<◌, ◌≤◌, length, slice_index};
+ghost use Rattle.std.specs.Prelude.{◌≡◌, ℕ, ◌+◌, ◌%◌, ◌<◌, ◌≤◌, length, slice_index};
 ghost use Rattle.chip_words.specs.Script.{run};
-ghost use Rattle.cpux_decode.specs.Ranges.{IsInRange, IsPlace};
-ghost use Rattle.cpux_execute.specs.Execution.{IsShort, one_operand as one_operand_of, performed};
-ghost use Rattle.chip_words.specs.Sizes.{IsByteOrWord};
+ghost use Rattle.cpux_decode.specs.Ranges.{IsInRange};
+ghost use Rattle.cpux_execute.specs.Execution.{IsShort, executed, performed};
 
-use chip_words::{Agent, Bus, Regs, Size};
-use cpux_decode::{Decoded, Op1, Place};
+use chip_words::{Agent, Bus, Regs};
+use cpux_decode::Decoded;
+use cycle_table::cycles;
 
 mod jumps;
 mod one_operand;
 mod operands;
+mod outcomes;
 mod two_operands;
 
-/// Does an instruction of one operand. `pc` is behind its first word, and PC in the registers is the next
-/// address.
-#[tactic(auto, unfolding(crate::specs::Execution::one_operand))]
-fn one<B: Bus>(regs: &mut Regs, bus: &mut B, ia: u32, pc: u32, op: Op1, size: Size, place: Place)
-    requires place { IsPlace place }
-    requires pc { pc < 0x100000 }
-    requires width { IsByteOrWord size }
-    requires room { length (B.chip bus.old).accesses < 60 }
-    ensures registers { regs.new ≡ (run (Agent.Cpu ia) (one_operand_of op size place pc regs.old) (B.chip bus.old)).value }
-    ensures chip { B.chip bus.new ≡ (run (Agent.Cpu ia) (one_operand_of op size place pc regs.old) (B.chip bus.old)).chip }
-    ensures count { length (B.chip bus.new).accesses ≤ length (B.chip bus.old).accesses + 3 }
-{
-    match op {
-        Op1::Push => one_operand::push(regs, bus, ia, pc, size, place),
-        Op1::Call => one_operand::call(regs, bus, ia, pc, place),
-        Op1::Rrc | Op1::Swpb | Op1::Rra | Op1::Sxt => one_operand::change(
-            regs, bus, ia, pc, op, size, place,
-        ),
-    }
-}
+pub use one_operand::{below, part, perform_one, push_value, put_down, width};
+pub use operands::{
+    above, address, before, flag, increase, load, put, read_source, read_target, register, store,
+};
+pub use outcomes::Outcome;
+pub use two_operands::perform_two;
 
-/// Does an instruction of the MSP430 whose words were fetched.
-///
-/// `ia` is the address of its first word and `pc` that behind it. PC in the registers is the next address.
-/// It makes at most three accesses.
+/// Does an instruction whose words were fetched. `pc` is behind its first word, and PC in the registers is the next
+/// address. A reserved word does nothing.
 #[tactic(auto, unfolding(crate::specs::Execution::performed))]
-pub fn perform<B: Bus>(regs: &mut Regs, bus: &mut B, ia: u32, pc: u32, d: &Decoded)
+fn perform<B: Bus>(regs: &mut Regs, bus: &mut B, ia: u32, pc: u32, d: &Decoded)
     requires row { IsShort d.now }
     requires range { IsInRange d.now }
     requires pc { pc < 0x100000 }
@@ -51,6 +38,7 @@ pub fn perform<B: Bus>(regs: &mut Regs, bus: &mut B, ia: u32, pc: u32, d: &Decod
     ensures count { length (B.chip bus.new).accesses ≤ length (B.chip bus.old).accesses + 3 }
 {
     match *d {
+        Decoded::Reserved => {}
         Decoded::Reti => one_operand::return_from_interrupt(regs, bus, ia),
         Decoded::Two {
             op,
@@ -58,17 +46,42 @@ pub fn perform<B: Bus>(regs: &mut Regs, bus: &mut B, ia: u32, pc: u32, d: &Decod
             from,
             to,
             ..
-        } => two_operands::perform(regs, bus, ia, pc, op, size, from, to),
+        } => perform_two(regs, bus, ia, pc, op, size, from, to),
         Decoded::One {
             op,
             size,
             place,
             ..
-        } => one(regs, bus, ia, pc, op, size, place),
+        } => perform_one(regs, bus, ia, pc, op, size, place),
         Decoded::Jump { cond, offset } => {
             let address = jumps::jump(cond, offset, regs.get(2) as u16, regs.get(0));
             regs.set(0, address);
         }
         _ => unreachable!(),
     }
+}
+
+/// Does an instruction of the MSP430 whose words were fetched, and says how it ended.
+///
+/// `ia` is the address of its first word, and `next` that behind its words, to which PC is set first. It makes at most
+/// three accesses. A reserved word leaves the registers, PC too, and makes none.
+#[tactic(auto, using(chip_words::proofs::Runs::run_then), unfolding(crate::specs::Execution::executed))]
+pub fn execute<B: Bus>(regs: &mut Regs, bus: &mut B, ia: u32, next: u32, d: &Decoded) -> Outcome
+    requires row { IsShort d.now }
+    requires range { IsInRange d.now }
+    requires place { ia < 0x100000 }
+    requires next { next < 0x100000 }
+    requires room { length (B.chip bus.old).accesses ≤ 4 }
+    ensures registers { regs.new ≡ (run (Agent.Cpu ia) (executed d.now ia next regs.old) (B.chip bus.old)).value.registers }
+    ensures outcome { result ≡ (run (Agent.Cpu ia) (executed d.now ia next regs.old) (B.chip bus.old)).value.outcome }
+    ensures chip { B.chip bus.new ≡ (run (Agent.Cpu ia) (executed d.now ia next regs.old) (B.chip bus.old)).chip }
+    ensures count { length (B.chip bus.new).accesses ≤ length (B.chip bus.old).accesses + 3 }
+    ensures cycles { (n : ℕ) → result ≡ Outcome.Cycles n → 1 ≤ n }
+{
+    if let Decoded::Reserved = *d {
+        return Outcome::Reserved;
+    }
+    regs.set(0, next);
+    perform(regs, bus, ia, above(ia), d);
+    Outcome::Cycles(cycles(d, 1, 0))
 }

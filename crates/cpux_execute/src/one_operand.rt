@@ -1,18 +1,20 @@
-ghost use Rattle.std.specs.Prelude.{◌≡◌, ◌+◌, ◌%◌, ◌<◌, ◌≤◌, length, slice_index};
-ghost use Rattle.chip_words.specs.Sizes.{IsByteOrWord, span};
+ghost use Rattle.std.specs.Prelude.{◌≡◌, ◌+◌, ◌*◌, ◌%◌, ◌<◌, ◌≤◌, length, slice_index};
+ghost use Rattle.chip_words.specs.Sizes.{span};
 ghost use Rattle.chip_words.specs.Script.{run};
 ghost use Rattle.cpux_decode.specs.Ranges.{IsPlace};
 ghost use Rattle.cpux_alu.specs.Operations.{GivesResult};
-ghost use Rattle.cpux_execute.specs.OneOperand.{call as call_of, changed, lowered, part_pushed, push as push_of, pushed, return_from_interrupt as return_of, width_of};
+ghost use Rattle.cpux_execute.specs.Execution.{one_operand};
+ghost use Rattle.cpux_execute.specs.Operands.{accesses_of};
+ghost use Rattle.cpux_execute.specs.OneOperand.{below as below_of, call as call_of, changed, lowered, part_pushed, push as push_of, pushed, put_down as put_down_of, return_from_interrupt as return_of, width_of};
 
-use crate::operands::{address, before, flag, increase, read_source, store};
+use crate::operands::{above, address, before, flag, increase, read_source, store};
 use chip_words::{Agent, Bus, Regs, Size, wrap20};
 use cpux_alu::one;
 use cpux_decode::{Op1, Place};
 
-/// SXT is 20 bits wide in a register.
+/// The width at which an operation of one operand computes: that of its operand, but SXT is 20 bits wide in a register.
 #[tactic(auto, unfolding(crate::specs::OneOperand::width_of))]
-fn width(op: Op1, size: Size, place: Place) -> Size
+pub fn width(op: Op1, size: Size, place: Place) -> Size
     ensures { result ≡ width_of op size place }
 {
     match (op, place) {
@@ -21,49 +23,93 @@ fn width(op: Op1, size: Size, place: Place) -> Size
     }
 }
 
-/// Lowers SP by two bytes.
-fn lower(regs: &mut Regs)
-    ensures { regs.new ≡ lowered regs.old }
+/// SP behind a push: 2 bytes lower, or 4 for 20 bits, modulo 2^20.
+#[tactic(auto, unfolding(crate::specs::OneOperand::below))]
+pub fn below(size: Size, sp: u32) -> u32
+    requires { sp < 0x100000 }
+    ensures value { result ≡ below_of size sp }
+    ensures small { result < 0x100000 }
 {
-    let sp = before(regs.get(1));
+    match size {
+        Size::Byte | Size::Word => before(sp),
+        Size::Addr => before(before(sp)),
+    }
+}
+
+/// Lowers SP for a value.
+fn lower(regs: &mut Regs, size: Size)
+    ensures { regs.new ≡ lowered size regs.old }
+{
+    let sp = below(size, regs.get(1));
     regs.set(1, sp);
 }
 
-/// What a width keeps of a value.
-fn part(size: Size, value: u32) -> u32
-    requires { IsByteOrWord size }
+/// What a width keeps of a value: its lower 8, 16 or 20 bits.
+pub fn part(size: Size, value: u32) -> u32
     ensures value { result ≡ part_pushed size value }
     ensures fits { result < span size }
 {
     match size {
         Size::Byte => value & 0xFF,
-        Size::Word | Size::Addr => value & 0xFFFF,
+        Size::Word => value & 0xFFFF,
+        Size::Addr => value & 0xFFFFF,
     }
 }
 
-/// Does PUSH. `pc` is behind its first word.
+/// Writes a value in memory for the instruction at `ia`, as a push does it: a byte, a word, or the two words of 20 bits
+/// with the higher one first.
+#[tactic(auto, unfolding(crate::specs::OneOperand::put_down))]
+pub fn put_down<B: Bus>(bus: &mut B, ia: u32, at: u32, size: Size, value: u32)
+    requires at { at < 0x100000 }
+    requires fits { value < span size }
+    requires room { length (B.chip bus.old).accesses < 63 }
+    ensures chip { B.chip bus.new ≡ (run (Agent.Cpu ia) (put_down_of at size value) (B.chip bus.old)).chip }
+    ensures count { length (B.chip bus.new).accesses ≤ length (B.chip bus.old).accesses + accesses_of size }
+{
+    let who = Agent::Cpu(ia);
+    match size {
+        Size::Byte | Size::Word => bus.write(who, at, size, value),
+        Size::Addr => {
+            bus.write(who, above(at), Size::Word, value >> 16);
+            bus.write(who, at, Size::Word, value & 0xFFFF);
+        }
+    }
+}
+
+/// Lowers SP by 2, or by 4 for 20 bits, and writes a value there for the instruction at `ia`.
+#[tactic(auto, using(chip_words::proofs::Runs::run_then), unfolding(crate::specs::OneOperand::pushed))]
+pub fn push_value<B: Bus>(regs: &mut Regs, bus: &mut B, ia: u32, size: Size, value: u32)
+    requires fits { value < span size }
+    requires room { length (B.chip bus.old).accesses < 63 }
+    ensures registers { regs.new ≡ (run (Agent.Cpu ia) (pushed size value (lowered size regs.old)) (B.chip bus.old)).value }
+    ensures chip { B.chip bus.new ≡ (run (Agent.Cpu ia) (pushed size value (lowered size regs.old)) (B.chip bus.old)).chip }
+    ensures count { length (B.chip bus.new).accesses ≤ length (B.chip bus.old).accesses + accesses_of size }
+{
+    lower(regs, size);
+    put_down(bus, ia, regs.get(1), size, value);
+}
+
+/// Does PUSH. `pc` is behind the instruction word.
 #[tactic(auto, using(chip_words::proofs::Runs::run_then), unfolding(crate::specs::OneOperand::push))]
-pub fn push<B: Bus>(regs: &mut Regs, bus: &mut B, ia: u32, pc: u32, size: Size, place: Place)
+fn push<B: Bus>(regs: &mut Regs, bus: &mut B, ia: u32, pc: u32, size: Size, place: Place)
     requires place { IsPlace place }
     requires pc { pc < 0x100000 }
-    requires width { IsByteOrWord size }
-    requires room { length (B.chip bus.old).accesses < 62 }
+    requires room { length (B.chip bus.old).accesses < 61 }
     ensures registers { regs.new ≡ (run (Agent.Cpu ia) (push_of size place pc regs.old) (B.chip bus.old)).value }
     ensures chip { B.chip bus.new ≡ (run (Agent.Cpu ia) (push_of size place pc regs.old) (B.chip bus.old)).chip }
-    ensures count { length (B.chip bus.new).accesses ≤ length (B.chip bus.old).accesses + 2 }
+    ensures count { length (B.chip bus.new).accesses ≤ length (B.chip bus.old).accesses + 2 * accesses_of size }
 {
     let value = read_source(regs, bus, ia, pc, size, place);
     increase(regs, size, place);
-    lower(regs);
-    bus.write(Agent::Cpu(ia), regs.get(1), size, part(size, value));
+    push_value(regs, bus, ia, size, part(size, value));
 }
 
-/// Does CALL. `pc` is behind its first word, and PC in the registers is the next address.
+/// Does CALL. `pc` is behind the instruction word, and PC in the registers is the next address.
 #[tactic(auto, using(chip_words::proofs::Runs::run_then), unfolding(crate::specs::OneOperand::call))]
-pub fn call<B: Bus>(regs: &mut Regs, bus: &mut B, ia: u32, pc: u32, place: Place)
+fn call<B: Bus>(regs: &mut Regs, bus: &mut B, ia: u32, pc: u32, place: Place)
     requires place { IsPlace place }
     requires pc { pc < 0x100000 }
-    requires room { length (B.chip bus.old).accesses < 62 }
+    requires room { length (B.chip bus.old).accesses < 61 }
     ensures registers { regs.new ≡ (run (Agent.Cpu ia) (call_of place pc regs.old) (B.chip bus.old)).value }
     ensures chip { B.chip bus.new ≡ (run (Agent.Cpu ia) (call_of place pc regs.old) (B.chip bus.old)).chip }
     ensures count { length (B.chip bus.new).accesses ≤ length (B.chip bus.old).accesses + 2 }
@@ -71,13 +117,7 @@ pub fn call<B: Bus>(regs: &mut Regs, bus: &mut B, ia: u32, pc: u32, place: Place
     let next = regs.get(0);
     let entry = read_source(regs, bus, ia, pc, Size::Word, place);
     increase(regs, Size::Word, place);
-    lower(regs);
-    bus.write(
-        Agent::Cpu(ia),
-        regs.get(1),
-        Size::Word,
-        part(Size::Word, next),
-    );
+    push_value(regs, bus, ia, Size::Word, part(Size::Word, next));
     regs.set(0, part(Size::Word, entry));
 }
 
@@ -92,31 +132,22 @@ pub fn return_from_interrupt<B: Bus>(regs: &mut Regs, bus: &mut B, ia: u32)
     let who = Agent::Cpu(ia);
     let sp = regs.get(1);
     let status = bus.read(who, sp, Size::Word);
-    let low = bus.read(who, wrap20(sp as u64 + 2), Size::Word);
+    let low = bus.read(who, above(sp), Size::Word);
     regs.set(1, wrap20(sp as u64 + 4));
     regs.set(2, status);
     regs.set(0, status / 0x1000 * 0x10000 + low);
 }
 
-/// Does RRC, SWPB, RRA or SXT. `pc` is behind its first word.
+/// Does RRC, SWPB, RRA or SXT. `pc` is behind the instruction word.
 #[tactic(auto, using(chip_words::proofs::Runs::run_then), unfolding(crate::specs::OneOperand::changed))]
-pub fn change<B: Bus>(
-    regs: &mut Regs,
-    bus: &mut B,
-    ia: u32,
-    pc: u32,
-    op: Op1,
-    size: Size,
-    place: Place,
-)
+fn change<B: Bus>(regs: &mut Regs, bus: &mut B, ia: u32, pc: u32, op: Op1, size: Size, place: Place)
     requires operation { GivesResult op }
     requires place { IsPlace place }
     requires pc { pc < 0x100000 }
-    requires width { IsByteOrWord size }
-    requires room { length (B.chip bus.old).accesses < 62 }
+    requires room { length (B.chip bus.old).accesses < 61 }
     ensures registers { regs.new ≡ (run (Agent.Cpu ia) (changed op size place pc regs.old) (B.chip bus.old)).value }
     ensures chip { B.chip bus.new ≡ (run (Agent.Cpu ia) (changed op size place pc regs.old) (B.chip bus.old)).chip }
-    ensures count { length (B.chip bus.new).accesses ≤ length (B.chip bus.old).accesses + 2 }
+    ensures count { length (B.chip bus.new).accesses ≤ length (B.chip bus.old).accesses + 2 * accesses_of size }
 {
     let sr = regs.get(2) as u16;
     let at = address(regs, pc, place);
@@ -125,4 +156,34 @@ pub fn change<B: Bus>(
     let (value, status) = one(op, width(op, size, place), x, sr);
     store(regs, bus, ia, at, size, place, value);
     flag(regs, true, place, status);
+}
+
+/// Does an instruction of one operand whose words were fetched, at any width: RRC, SWPB, RRA, SXT, PUSH or CALL.
+///
+/// `ia` is the address of its first word, and `pc` that behind the instruction word. PC in the registers is the next
+/// address. CALL has 16 bits at each width. It makes at most two accesses of bytes or words, and four for 20 bits.
+#[tactic(auto, unfolding(crate::specs::Execution::one_operand))]
+pub fn perform_one<B: Bus>(
+    regs: &mut Regs,
+    bus: &mut B,
+    ia: u32,
+    pc: u32,
+    op: Op1,
+    size: Size,
+    place: Place,
+)
+    requires place { IsPlace place }
+    requires pc { pc < 0x100000 }
+    requires room { length (B.chip bus.old).accesses < 61 }
+    ensures registers { regs.new ≡ (run (Agent.Cpu ia) (one_operand op size place pc regs.old) (B.chip bus.old)).value }
+    ensures chip { B.chip bus.new ≡ (run (Agent.Cpu ia) (one_operand op size place pc regs.old) (B.chip bus.old)).chip }
+    ensures count { length (B.chip bus.new).accesses ≤ length (B.chip bus.old).accesses + 2 * accesses_of size }
+{
+    match op {
+        Op1::Push => push(regs, bus, ia, pc, size, place),
+        Op1::Call => call(regs, bus, ia, pc, place),
+        Op1::Rrc | Op1::Swpb | Op1::Rra | Op1::Sxt => {
+            change(regs, bus, ia, pc, op, size, place);
+        }
+    }
 }

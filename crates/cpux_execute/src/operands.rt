@@ -1,14 +1,14 @@
 ghost use Rattle.std.specs.Prelude.{◌≡◌, ◌+◌, ◌%◌, ◌<◌, ◌≤◌, length};
-ghost use Rattle.chip_words.specs.Sizes.{IsByteOrWord, span};
+ghost use Rattle.chip_words.specs.Sizes.{span};
 ghost use Rattle.chip_words.specs.Script.{run};
 ghost use Rattle.cpux_decode.specs.Ranges.{IsDestination, IsPlace};
-ghost use Rattle.cpux_execute.specs.Operands.{address_of, before as before_of, IsFor, flagged, increased, is_status as is_status_of, register_at, source, step_of, stored_to, target};
+ghost use Rattle.cpux_execute.specs.Operands.{above as above_of, accesses_of, address_of, asked, before as before_of, IsFor, flagged, increased, is_status as is_status_of, put as put_of, register_at, source, step_of, stored_to, target};
 
 use chip_words::{Agent, Bus, Regs, Size, wrap20};
 use cpux_alu::near;
 use cpux_decode::Place;
 
-/// Two bytes before an address.
+/// Two bytes before an address, modulo 2^20.
 pub fn before(at: u32) -> u32
     requires { at < 0x100000 }
     ensures value { result ≡ before_of at }
@@ -17,8 +17,17 @@ pub fn before(at: u32) -> u32
     wrap20(at as u64 + 0xFFFFE)
 }
 
-/// The value of a register, where PC stands at `pc`.
-fn register(regs: &Regs, pc: u32, n: u8) -> u32
+/// Two bytes behind an address, modulo 2^20: where the higher word of 20 bits is.
+pub fn above(at: u32) -> u32
+    requires { at < 0x100000 }
+    ensures value { result ≡ above_of at }
+    ensures small { result < 0x100000 }
+{
+    wrap20(at as u64 + 2)
+}
+
+/// The value of register `n`, 0 to 15, where PC stands at `pc`.
+pub fn register(regs: &Regs, pc: u32, n: u8) -> u32
     requires register { n < 16 }
     requires pc { pc < 0x100000 }
     ensures value { result ≡ register_at regs.now pc n }
@@ -27,7 +36,9 @@ fn register(regs: &Regs, pc: u32, n: u8) -> u32
     if n == 0 { pc } else { regs.get(n) }
 }
 
-/// The address of an operand in memory, whose index word is at `pc`.
+/// The address of an operand in memory, whose index word is at `pc` (SLAU367, chapter CPUX, addressing modes).
+///
+/// An operand that isn't in memory has the address 0.
 #[tactic(auto, unfolding(crate::specs::Operands::address_of))]
 pub fn address(regs: &Regs, pc: u32, place: Place) -> u32
     requires place { IsPlace place }
@@ -44,7 +55,50 @@ pub fn address(regs: &Regs, pc: u32, place: Place) -> u32
     }
 }
 
-/// Reads a source. PC stands at `pc`, behind the instruction word.
+/// Reads an operand in memory for the instruction at `ia`: a byte, a word, or two words for 20 bits.
+#[tactic(auto, unfolding(crate::specs::Operands::asked))]
+pub fn load<B: Bus>(bus: &mut B, ia: u32, at: u32, size: Size) -> u32
+    requires at { at < 0x100000 }
+    requires room { length (B.chip bus.old).accesses < 63 }
+    ensures value { result ≡ (run (Agent.Cpu ia) (asked at size) (B.chip bus.old)).value }
+    ensures small { result < span size }
+    ensures chip { B.chip bus.new ≡ (run (Agent.Cpu ia) (asked at size) (B.chip bus.old)).chip }
+    ensures count { length (B.chip bus.new).accesses ≤ length (B.chip bus.old).accesses + accesses_of size }
+{
+    let who = Agent::Cpu(ia);
+    match size {
+        Size::Byte | Size::Word => bus.read(who, at, size),
+        Size::Addr => {
+            let low = bus.read(who, at, Size::Word);
+            let high = bus.read(who, above(at), Size::Word);
+            low + 0x10000 * (high & 0xF)
+        }
+    }
+}
+
+/// Writes an operand in memory for the instruction at `ia`: a byte, a word, or two words for 20 bits.
+#[tactic(auto, unfolding(crate::specs::Operands::put))]
+pub fn put<B: Bus>(bus: &mut B, ia: u32, at: u32, size: Size, value: u32)
+    requires at { at < 0x100000 }
+    requires fits { value < span size }
+    requires room { length (B.chip bus.old).accesses < 63 }
+    ensures chip { B.chip bus.new ≡ (run (Agent.Cpu ia) (put_of at size value) (B.chip bus.old)).chip }
+    ensures count { length (B.chip bus.new).accesses ≤ length (B.chip bus.old).accesses + accesses_of size }
+{
+    let who = Agent::Cpu(ia);
+    match size {
+        Size::Byte | Size::Word => bus.write(who, at, size, value),
+        Size::Addr => {
+            bus.write(who, at, Size::Word, value & 0xFFFF);
+            bus.write(who, above(at), Size::Word, value >> 16);
+        }
+    }
+}
+
+/// Reads a source for the instruction at `ia`. PC stands at `pc`, behind the instruction word, where an index word of
+/// the source is.
+///
+/// A register and a constant are read with all their 20 bits, at every width.
 #[tactic(auto, unfolding(crate::specs::Operands::source))]
 pub fn read_source<B: Bus>(
     regs: &Regs,
@@ -56,22 +110,23 @@ pub fn read_source<B: Bus>(
 ) -> u32
     requires place { IsPlace place }
     requires pc { pc < 0x100000 }
-    requires width { IsByteOrWord size }
-    requires room { length (B.chip bus.old).accesses < 64 }
+    requires room { length (B.chip bus.old).accesses < 63 }
     ensures value { result ≡ (run (Agent.Cpu ia) (source size regs.now pc place) (B.chip bus.old)).value }
+    ensures small { result < 0x100000 }
     ensures chip { B.chip bus.new ≡ (run (Agent.Cpu ia) (source size regs.now pc place) (B.chip bus.old)).chip }
-    ensures count { length (B.chip bus.new).accesses ≤ length (B.chip bus.old).accesses + 1 }
+    ensures count { length (B.chip bus.new).accesses ≤ length (B.chip bus.old).accesses + accesses_of size }
 {
     match place {
         Place::Reg(r) => register(regs, pc, r),
         Place::Const(value) | Place::Imm(value) => value,
         Place::Near(..) | Place::Far(..) | Place::Absolute(_) | Place::At(_) | Place::AtPlus(_) => {
-            bus.read(Agent::Cpu(ia), address(regs, pc, place), size)
+            load(bus, ia, address(regs, pc, place), size)
         }
     }
 }
 
-/// Steps the register of a source that is read with autoincrement.
+/// Steps the register of a source that is read with autoincrement: by 1 for a byte, but 2 of PC and SP, by 2 for a
+/// word and 4 for 20 bits. It leaves the registers of another source.
 #[tactic(auto, unfolding(crate::specs::Operands::increased))]
 pub fn increase(regs: &mut Regs, size: Size, place: Place)
     requires { IsPlace place }
@@ -83,6 +138,7 @@ pub fn increase(regs: &mut Regs, size: Size, place: Place)
     }
 }
 
+/// How far an autoincrement goes.
 fn step(size: Size, r: u8) -> u32
     ensures value { result ≡ step_of size r }
     ensures small { result ≤ 4 }
@@ -94,7 +150,7 @@ fn step(size: Size, r: u8) -> u32
     }
 }
 
-/// Reads a destination, which is at an address where it is in memory.
+/// Reads a destination for the instruction at `ia`: a register, or memory at the address `at`.
 #[tactic(auto, unfolding(crate::specs::Operands::target))]
 pub fn read_target<B: Bus>(
     regs: &Regs,
@@ -106,20 +162,22 @@ pub fn read_target<B: Bus>(
 ) -> u32
     requires place { IsDestination place }
     requires at { at < 0x100000 }
-    requires width { IsByteOrWord size }
-    requires room { length (B.chip bus.old).accesses < 64 }
+    requires room { length (B.chip bus.old).accesses < 63 }
     ensures value { result ≡ (run (Agent.Cpu ia) (target size regs.now at place) (B.chip bus.old)).value }
+    ensures small { result < 0x100000 }
     ensures chip { B.chip bus.new ≡ (run (Agent.Cpu ia) (target size regs.now at place) (B.chip bus.old)).chip }
-    ensures count { length (B.chip bus.new).accesses ≤ length (B.chip bus.old).accesses + 1 }
+    ensures count { length (B.chip bus.new).accesses ≤ length (B.chip bus.old).accesses + accesses_of size }
 {
     match place {
         Place::Reg(r) => regs.get(r),
-        _ => bus.read(Agent::Cpu(ia), at, size),
+        _ => load(bus, ia, at, size),
     }
 }
 
-/// Writes a destination, which is at an address where it is in memory.
-#[tactic(auto, unfolding(crate::specs::Operands::stored_to))]
+/// Writes a destination for the instruction at `ia`: a register, or memory at the address `at`.
+///
+/// A register takes any value, and memory one that fits the width.
+#[tactic(auto, using(chip_words::proofs::Runs::run_then), unfolding(crate::specs::Operands::stored_to))]
 pub fn store<B: Bus>(
     regs: &mut Regs,
     bus: &mut B,
@@ -131,16 +189,15 @@ pub fn store<B: Bus>(
 )
     requires place { IsPlace place }
     requires at { at < 0x100000 }
-    requires width { IsByteOrWord size }
     requires fits { IsFor place size value }
-    requires room { length (B.chip bus.old).accesses < 64 }
+    requires room { length (B.chip bus.old).accesses < 63 }
     ensures registers { regs.new ≡ (run (Agent.Cpu ia) (stored_to size regs.old at place value) (B.chip bus.old)).value }
     ensures chip { B.chip bus.new ≡ (run (Agent.Cpu ia) (stored_to size regs.old at place value) (B.chip bus.old)).chip }
-    ensures count { length (B.chip bus.new).accesses ≤ length (B.chip bus.old).accesses + 1 }
+    ensures count { length (B.chip bus.new).accesses ≤ length (B.chip bus.old).accesses + accesses_of size }
 {
     match place {
         Place::Reg(r) => regs.set(r, value),
-        _ => bus.write(Agent::Cpu(ia), at, size, value),
+        _ => put(bus, ia, at, size, value),
     }
 }
 
@@ -151,7 +208,9 @@ fn is_status(place: Place) -> bool
     matches!(place, Place::Reg(2))
 }
 
-/// Sets the flags in SR, unless the result was written there.
+/// Sets SR to the status that an operation gives, unless its result was written there.
+///
+/// `written` says that the operation writes its result to `place`.
 pub fn flag(regs: &mut Regs, written: bool, place: Place, status: u16)
     ensures { regs.new ≡ flagged written place status regs.old }
 {

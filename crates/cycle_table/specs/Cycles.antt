@@ -12,6 +12,8 @@ use Rattle.cpux_decode.specs.declared.operations.Op2.{Op2}
 use Rattle.cpux_decode.specs.declared.operations.Op2.TheVariants.{Mov, Cmp, Bit}
 use Rattle.cpux_decode.specs.declared.operations.OpA.{OpA}
 use Rattle.cpux_decode.specs.declared.operations.OpA.TheVariants as address
+use Rattle.cpux_decode.specs.Operations.{reads_destination, writes_destination}
+use Rattle.cpux_decode.specs.Places.{is_memory, is_pc, is_register, is_register_source}
 use Rattle.cpux_decode.specs.declared.places.Place.{Place}
 use Rattle.cpux_decode.specs.declared.places.Place.TheVariants.{Reg, Const, Near, Far, Absolute, At, AtPlus, Imm}
 
@@ -19,29 +21,6 @@ use Rattle.cpux_decode.specs.declared.places.Place.TheVariants.{Reg, Const, Near
 abbrev pub IsInstruction : Decoded → Type 0
 IsInstruction made.Reserved = ⊥
 IsInstruction d = Unit {0}
-
--- an operand that lies in memory: an immediate is a word of the instruction, and no operand in memory
-unfoldable pub is_memory : Place → Bool
-is_memory (Near r index) = true
-is_memory (Far r index) = true
-is_memory (Absolute at) = true
-is_memory (At r) = true
-is_memory (AtPlus r) = true
-is_memory place = false
-
-unfoldable pub is_pc : Place → Bool
-is_pc (Reg r) = r == 0
-is_pc place = false
-
--- two operands: all but MOV read the destination, and all but CMP and BIT write it
-unfoldable pub reads_destination : Op2 → Bool
-reads_destination Mov = false
-reads_destination op = true
-
-unfoldable pub writes_destination : Op2 → Bool
-writes_destination Cmp = false
-writes_destination Bit = false
-writes_destination op = true
 
 unfoldable pub source_cost : Place → ℕ
 source_cost (Reg r) = 0
@@ -80,16 +59,6 @@ repeat_cost repeated reps = if repeated then reps - 1 else 0
 unfoldable pub two_accesses : Op2 → Place → Place → ℕ
 two_accesses op from to =
     bit_of (is_memory from) + bit_of (is_memory to && reads_destination op) + bit_of (is_memory to && writes_destination op)
-
--- the source is a register, R3 with the constant 0 too
-unfoldable pub is_register_source : Place → Bool
-is_register_source (Reg r) = true
-is_register_source (Const value) = value == 0
-is_register_source place = false
-
-unfoldable pub is_register : Place → Bool
-is_register (Reg r) = true
-is_register place = false
 
 -- behind an extension word the register form is repeated
 unfoldable pub two_cycles : Op2 → Size → Place → Place → Bool → ℕ → ℕ

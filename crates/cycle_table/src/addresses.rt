@@ -1,7 +1,6 @@
 ghost use Rattle.std.specs.Prelude.{◌≡◌, ◌+◌, ◌*◌, ◌≤◌};
 ghost use Rattle.cycle_table.specs.Cycles.{addr_cycles as addr_cycles_of, address_cost as address_cost_of, calla_cycles as calla_cycles_of, load_cost as load_cost_of, many_cycles as many_cycles_of, move_cycles as move_cycles_of};
 
-use crate::places::{is_memory, is_pc};
 use cpux_decode::{OpA, Place, Size};
 
 /// What a write of PC adds to an address instruction.
@@ -14,9 +13,9 @@ pub fn move_cycles(from: Place, to: Place) -> u32
     ensures least { 1 ≤ result }
     ensures most { result ≤ 6 }
 {
-    if is_memory(to) {
+    if to.is_memory() {
         4
-    } else if is_pc(to) {
+    } else if to.is_pc() {
         load_cost(from) + PC_WRITE_COST
     } else {
         load_cost(from)

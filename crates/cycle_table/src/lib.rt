@@ -7,7 +7,6 @@ ghost use Rattle.cycle_table.specs.Cycles.{IsInstruction, cycles_of, instruction
 
 mod addresses;
 mod operands;
-mod places;
 #[cfg(test)]
 mod tests;
 

@@ -1,7 +1,6 @@
 ghost use Rattle.std.specs.Prelude.{◌≡◌, ◌+◌, ◌<◌, ◌≤◌};
-ghost use Rattle.cycle_table.specs.Cycles.{change_cost as change_cost_of, destination_cost as destination_cost_of, extension_cost as extension_cost_of, is_repeatable as is_repeatable_of, one_accesses as one_accesses_of, one_cost as one_cost_of, one_cycles as one_cycles_of, push_cost as push_cost_of, reads_destination as reads_destination_of, repeat_cost as repeat_cost_of, source_cost as source_cost_of, two_accesses as two_accesses_of, two_cycles as two_cycles_of, writes_destination as writes_destination_of};
+ghost use Rattle.cycle_table.specs.Cycles.{change_cost as change_cost_of, destination_cost as destination_cost_of, extension_cost as extension_cost_of, is_repeatable as is_repeatable_of, one_accesses as one_accesses_of, one_cost as one_cost_of, one_cycles as one_cycles_of, push_cost as push_cost_of, repeat_cost as repeat_cost_of, source_cost as source_cost_of, two_accesses as two_accesses_of, two_cycles as two_cycles_of};
 
-use crate::places::{is_memory, is_register, is_register_source};
 use cpux_decode::{Op1, Op2, Place, Size};
 
 /// The cycles of an operation of two operands.
@@ -13,7 +12,7 @@ pub fn two_cycles(op: Op2, size: Size, from: Place, to: Place, long: bool, reps:
     ensures least { 1 ≤ result }
     ensures most { result ≤ 25 }
 {
-    let repeated = long && is_register_source(from) && is_register(to);
+    let repeated = long && from.is_register_source() && to.is_register();
     source_cost(from)
         + destination_cost(op, to)
         + extension_cost(long, size, two_accesses(op, from, to))
@@ -29,7 +28,7 @@ pub fn one_cycles(op: Op1, size: Size, place: Place, long: bool, reps: u32) -> u
     ensures least { 1 ≤ result }
     ensures most { result ≤ 23 }
 {
-    let repeated = long && is_repeatable(op) && is_register(place);
+    let repeated = long && is_repeatable(op) && place.is_register();
     one_cost(op, place)
         + extension_cost(long, size, one_accesses(op, place))
         + repeat_cost(repeated, reps)
@@ -56,7 +55,7 @@ fn destination_cost(op: Op2, place: Place) -> u32
     ensures most { result ≤ 4 }
 {
     match place {
-        Place::Reg(0) if writes_destination(op) => 3,
+        Place::Reg(0) if op.writes_destination() => 3,
         Place::Reg(_) => 1,
         _ => match op {
             Op2::Mov | Op2::Bit | Op2::Cmp => 3,
@@ -65,31 +64,15 @@ fn destination_cost(op: Op2, place: Place) -> u32
     }
 }
 
-/// Says whether an operation reads its destination.
-#[tactic(auto, unfolding(crate::specs::Cycles::reads_destination))]
-fn reads_destination(op: Op2) -> bool
-    ensures { result ≡ reads_destination_of op }
-{
-    !matches!(op, Op2::Mov)
-}
-
-/// Says whether an operation writes its destination.
-#[tactic(auto, unfolding(crate::specs::Cycles::writes_destination))]
-fn writes_destination(op: Op2) -> bool
-    ensures { result ≡ writes_destination_of op }
-{
-    !matches!(op, Op2::Cmp | Op2::Bit)
-}
-
 /// How many operands in memory are read and are written.
 #[tactic(auto, unfolding(crate::specs::Cycles::two_accesses))]
 fn two_accesses(op: Op2, from: Place, to: Place) -> u32
     ensures count { result ≡ two_accesses_of op from to }
     ensures most { result ≤ 3 }
 {
-    let (read, written) = (reads_destination(op), writes_destination(op));
-    let stored = is_memory(to);
-    is_memory(from) as u32 + (stored && read) as u32 + (stored && written) as u32
+    let (read, written) = (op.reads_destination(), op.writes_destination());
+    let stored = to.is_memory();
+    from.is_memory() as u32 + (stored && read) as u32 + (stored && written) as u32
 }
 
 /// What an operation of one operand costs by itself.
@@ -139,7 +122,7 @@ fn one_accesses(op: Op1, place: Place) -> u32
     ensures count { result ≡ one_accesses_of op place }
     ensures most { result ≤ 2 }
 {
-    let stored = is_memory(place) as u32;
+    let stored = place.is_memory() as u32;
     match op {
         Op1::Push | Op1::Call => stored,
         Op1::Rrc | Op1::Swpb | Op1::Rra | Op1::Sxt => 2 * stored,

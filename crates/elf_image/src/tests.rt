@@ -136,13 +136,13 @@ fn says_why(rt: HostRuntime) -> Result<(), Fail> {
     Ok(())
 }
 
-/// The ELF header of a file with so many program headers.
+/// The ELF header of a file with so many program headers, and with two section headers at some place.
 fn begin_file(alloc: Global, count: u16) -> Result<Vec<u8>, AllocError> {
     let mut file = Vec::new(alloc);
     let (start, _) = FILE.split_at(44);
     file.extend_from_slice(start)?;
     file.extend_from_slice(&count.to_le_bytes())?;
-    file.extend_from_slice(&[0x28, 0, 0, 0, 0, 0])?;
+    file.extend_from_slice(&[0x28, 0, 2, 0, 1, 0])?;
     Ok(file)
 }
 
@@ -157,8 +157,8 @@ fn push_header(file: &mut Vec<u8>, fields: [u32; 6]) -> Result<(), AllocError> {
 #[test]
 fn loads(rt: HostRuntime) -> Result<(), Fail> {
     // The headers of the file itself, which lie before main FRAM, as linkers put them; code, data that
-    // the program copies to SRAM, vectors and information FRAM; two bytes of debug data behind. The
-    // last header writes over one byte of the code.
+    // the program copies to SRAM, vectors and information FRAM; behind them two bytes of debug data
+    // and two section headers. The last header writes over one byte of the code.
     let headers = [
         [1, 0, 0x4000, 0x4000, 116, 116],
         [1, 276, 0x4400, 0x4400, 4, 4],
@@ -176,6 +176,7 @@ fn loads(rt: HostRuntime) -> Result<(), Fail> {
         push_header(&mut file, header)?;
     }
     file.extend_from_slice(&rest)?;
+    file.extend_from_slice(&[0xEE; 80])?;
     let image = read_image(file.as_slice())?;
     let mut memory = vec![in rt.alloc(); 0x5A; MAIN_END as usize]?;
     image.load(memory.as_mut_slice());

@@ -29,7 +29,7 @@ pub fn region_of(at: u32) -> Region
     ensures region { result ≡ region_at at }
 
     // All memory lies below its end.
-    ensures memory { IsTrue (has_bytes result) → at < 0x14000 }
+    ensures memory { IsTrue (has_bytes result) → at < MAIN_END }
 {
     match at {
         0x00000..0x01000 => Region::Periph,

@@ -14,7 +14,7 @@ use Rattle.stimulus.specs.declared.refusals.RootField.TheVariants as field
 use Rattle.stimulus.specs.Toml.{has_key_beside, number_at, number_within, values_of}
 use Rattle.stimulus.specs.Events.{IsPinEvent, breaks_rule, event_of, on_tick}
 
--- what a bench does to a chip: how many ticks the run has, which byte RAM is filled with, and the events
+-- what a bench does to a chip: how many ticks the run has, which byte SRAM is filled with, and the events
 -- in the order of the file
 pub record Stimulus : Type 0 where
   pub end : ℕ

@@ -50,7 +50,7 @@ impl Bench {
         self.end
     }
 
-    /// The byte that RAM is filled with.
+    /// The byte that SRAM is filled with.
     pub fn fill(&self) -> u8
         ensures { result ≡ self.now.fill }
     {

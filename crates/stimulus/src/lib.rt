@@ -1,4 +1,4 @@
-//! The bench that a firmware writer gives: how long a run is, what RAM is filled with, and what comes
+//! The bench that a firmware writer gives: how long a run is, what SRAM is filled with, and what comes
 //! to the pins at which tick.
 //!
 //! A bench is a TOML document of the format in `docs/BENCH.md`.

@@ -9,7 +9,7 @@ pub enum RootField {
     Version,
     /// `end`, the number of ticks of the run.
     End,
-    /// `fill`, the byte that RAM is filled with.
+    /// `fill`, the byte that SRAM is filled with.
     Fill,
     /// `event`, the array of events.
     Event,

@@ -1,0 +1,15 @@
+-- What is left to pop does from here what the whole did from the start.
+use Rattle.std.proofs.Common.{◌≡◌, ◌+◌, ◌-◌, ◌*◌, ◌<◌, ◌≤◌, length}
+use Rattle.chip_words.specs.declared.accesses.Agent.TheVariants.{Cpu}
+use Rattle.chip_words.specs.Script.{run}
+use Rattle.cpux_execute.specs.Operands.{accesses_of}
+use Rattle.cpux_extended.specs.Stack.{popped_from, popped_many}
+use Rattle.cpux_extended.proofs.stack.pop_many.Given as goal
+
+abbrev pub invariant-loop : goal.invariant-loop
+invariant-loop g l = let chip = g.B.Bus.chip in record {
+  place : l.at < 0x100000;
+  register : l.r < 16;
+  room : length (chip l.bus).accesses ≤ length (chip l.fn.bus).accesses + l.counter * accesses_of l.size;
+  same : run (Cpu l.fn.ia) (popped_from l.size (l.count - l.counter) l.r l.at l.regs) (chip l.bus) ≡ run (Cpu l.fn.ia) (popped_many l.size l.fn.count l.fn.reg l.fn.regs) (chip l.fn.bus);
+}

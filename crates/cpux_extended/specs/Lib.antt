@@ -1,0 +1,5 @@
+pub mod RegisterForm
+pub mod AddressInstructions
+pub mod Stack
+pub mod Extended
+pub mod Instruction
