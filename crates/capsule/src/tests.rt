@@ -106,10 +106,13 @@ fn writes_the_trace_of_an_image(rt: HostRuntime) -> Result<(), Fail> {
     )?;
     run_of(headed.as_slice()).gives(&rt, Status::Done, BLINK_TRACE)?;
 
-    // 1301h is no instruction, and the reset that it causes isn't built.
+    // FRCTL0 isn't built.
     let unbuilt = image(
         alloc,
-        &[(0x4400, &[0xC392, 0x0130, 0x1301]), (0xFFFE, &VECTOR)],
+        &[
+            (0x4400, &[0xC392, 0x0130, 0x4215, 0x0140]),
+            (0xFFFE, &VECTOR),
+        ],
     )?;
     run_of(unbuilt.as_slice()).gives(&rt, Status::Done, "0 ON\n2 BOOT 00 00000 00000\n7 STOP\n")?;
 
@@ -357,5 +360,197 @@ fn executes_the_msp430x(rt: HostRuntime) -> Result<(), Fail> {
         text.push_str("1000 END\n")?;
         run_of(file.as_slice()).gives(&rt, Status::Done, text.as_str())?;
     }
+    Ok(())
+}
+
+/// A program that is run under a bench of its own, and the lines behind the boot's.
+#[derive(Clone, Copy)]
+struct Run<'a> {
+    code: &'a [u16],
+    elsewhere: (u32, &'a [u16]),
+    vector: (u32, &'a [u16]),
+    bench: &'a str,
+    lines: &'a str,
+}
+
+impl Run<'_> {
+    fn compares(&self, rt: &(impl Abort + AllocGlobal)) -> Result<(), Fail> {
+        let alloc = rt.alloc();
+        let file = image(
+            alloc,
+            &[
+                (0x4400, self.code),
+                self.elsewhere,
+                self.vector,
+                (0xFFFE, &VECTOR),
+            ],
+        )?;
+        let mut text = String::from_str(alloc, "0 ON\n2 BOOT 00 00000 00000\n")?;
+        text.push_str(self.lines)?;
+        run_under(file.as_slice(), self.bench).gives(rt, Status::Done, text.as_str())
+    }
+}
+
+/// A program that is all at 4400h.
+fn alone<'a>(code: &'a [u16], bench: &'a str, lines: &'a str) -> Run<'a> {
+    Run {
+        code,
+        elsewhere: (0x4800, &[]),
+        vector: (0xFFF2, &[]),
+        bench,
+        lines,
+    }
+}
+
+#[test]
+fn takes_resets(rt: HostRuntime) -> Result<(), Fail> {
+    // A reserved word, in the first tick behind the boot and behind each reset.
+    alone(
+        &[0x1301],
+        "version = 1\nend = 6\n",
+        "3 RST 40\n4 RST 40\n5 RST 40\n6 END\n",
+    )
+    .compares(&rt)?;
+    // SWBOR, behind which the boot has its three ticks again; and both bits at once.
+    let bor = "3 RST 06\n6 BOOT 00 00000 00000\n7 RST 06\n9 END\n";
+    alone(&[0x40B2, 0xA504, 0x0120], "version = 1\nend = 9\n", bor).compares(&rt)?;
+    alone(&[0x40B2, 0xA50C, 0x0120], "version = 1\nend = 9\n", bor).compares(&rt)?;
+    // SWPOR, and a wrong password.
+    alone(
+        &[0x40B2, 0xA508, 0x0120],
+        "version = 1\nend = 5\n",
+        "3 RST 14\n4 RST 14\n5 END\n",
+    )
+    .compares(&rt)?;
+    alone(
+        &[0x40B2, 0x0008, 0x0120],
+        "version = 1\nend = 5\n",
+        "3 RST 20\n4 RST 20\n5 END\n",
+    )
+    .compares(&rt)?;
+    // A jump into the peripherals: 4 cycles, and then the reset.
+    alone(
+        &[0x4030, 0x0100],
+        "version = 1\nend = 13\n",
+        "7 RST 1E\n12 RST 1E\n13 END\n",
+    )
+    .compares(&rt)?;
+
+    // A PUC makes P1 an input again, and leaves the lock clear; the program sets it all the same.
+    let directions = [
+        0xC392, 0x0130, // BIC #1, &PM5CTL0         4 cycles, ticks 3 and 11
+        0x43D2, 0x0204, // MOV.B #1, &P1DIR         3 cycles, ticks 7 and 15
+        0x1301, // reserved                         ticks 10 and 18
+    ];
+    let lines =
+        "7 PIN P1 zzzzzzz0\n10 RST 40\n10 PIN P1 zzzzzzzz\n15 PIN P1 zzzzzzz0\n18 RST 40\n18 PIN P1 zzzzzzzz\n19 END\n";
+    alone(&directions, "version = 1\nend = 19\n", lines).compares(&rt)?;
+
+    // SYSRSTIV tells the cause once: 02h when power came on, and 40h behind the reserved word.
+    let causes = [
+        0xC392, 0x0130, // BIC #1, &PM5CTL0         4 cycles, ticks 3 and 21
+        0x43F2, 0x0204, // MOV.B #-1, &P1DIR        3 cycles, ticks 7 and 25
+        0x42D2, 0x019E, 0x0202, // MOV.B &SYSRSTIV, &P1OUT  5 cycles, ticks 10 and 28
+        0x42D2, 0x019E, 0x0202, // the same         5 cycles, ticks 15 and 33
+        0x1301, // reserved                         tick 20
+    ];
+    let lines =
+        "7 PIN P1 00000000\n10 PIN P1 00000010\n15 PIN P1 00000000\n20 RST 40\n20 PIN P1 zzzzzzzz\n25 PIN P1 00000000\n28 PIN P1 01000000\n33 PIN P1 00000000\n34 END\n";
+    alone(&causes, "version = 1\nend = 34\n", lines).compares(&rt)?;
+
+    // The program erases its reset vector, in 3 cycles.
+    let erased = [0x43B2, 0xFFFE, 0x1301];
+    alone(
+        &erased,
+        "version = 1\nend = 10\n",
+        "6 RST 40\n6 DEAD\n10 END\n",
+    )
+    .compares(&rt)?;
+    Ok(())
+}
+
+#[test]
+fn enters_interrupts(rt: HostRuntime) -> Result<(), Fail> {
+    // The routine alone makes P1.0 an output.
+    let bare = [
+        0x4031, 0x2400, 0xD392, 0x0100, 0xD392, 0x0102, 0xD232, 0x3FFF,
+    ];
+    let unlock = [0xC392, 0x0130, 0x43D2, 0x0204, 0x3FFF];
+    Run {
+        code: &bare,
+        elsewhere: (0x4440, &unlock),
+        vector: (0xFFF2, &[0x4440]),
+        bench: "version = 1\nend = 1000\n",
+        lines: "24 PIN P1 zzzzzzz0\n1000 END\n",
+    }
+    .compares(&rt)?;
+
+    let sleeper = [
+        0x4031, 0x2400, // MOV #2400h, SP           2 cycles, tick 3
+        0xC392, 0x0130, // BIC #1, &PM5CTL0         4 cycles, tick 5
+        0x43D2, 0x0204, // MOV.B #1, &P1DIR         3 cycles, tick 9
+        0xD392, 0x0100, // BIS #1, &SFRIE1          4 cycles, tick 12
+        0xD392, 0x0102, // BIS #1, &SFRIFG1         4 cycles, tick 16
+        0xD032, 0x0018, // BIS #18h, SR             2 cycles, tick 20: GIE and CPUOFF
+        0x3FFF, // JMP $
+    ];
+    let once = [
+        0xE3D2, 0x0202, // XOR.B #1, &P1OUT         4 cycles, tick 28, behind the 6 of the entry
+        0x1300, // RETI                             5 cycles; the entry cleared the flag
+    ];
+    let again = [
+        0xE3D2, 0x0202, // XOR.B #1, &P1OUT         4 cycles, ticks 28, 47 and 66
+        0xD392, 0x0102, // BIS #1, &SFRIFG1         4 cycles
+        0x1300, // RETI                             5 cycles, ticks 36, 55 and 74
+    ];
+    for (routine, lines) in [
+        (
+            once.as_slice(),
+            "9 PIN P1 zzzzzzz0\n28 PIN P1 zzzzzzz1\n80 END\n",
+        ),
+        (
+            again.as_slice(),
+            "9 PIN P1 zzzzzzz0\n28 PIN P1 zzzzzzz1\n47 PIN P1 zzzzzzz0\n66 PIN P1 zzzzzzz1\n80 END\n",
+        ),
+    ] {
+        Run {
+            code: &sleeper,
+            elsewhere: (0x4440, routine),
+            vector: (0xFFF2, &[0x4440]),
+            bench: "version = 1\nend = 80\n",
+            lines,
+        }
+        .compares(&rt)?;
+    }
+    Ok(())
+}
+
+#[test]
+fn returns_above_64_kb(rt: HostRuntime) -> Result<(), Fail> {
+    let code = [
+        0x4031, 0x2400, // MOV #2400h, SP           2 cycles, tick 3
+        0xC392, 0x0130, // BIC #1, &PM5CTL0         4 cycles, tick 5
+        0x43D2, 0x0204, // MOV.B #1, &P1DIR         3 cycles, tick 9
+        0xD392, 0x0100, // BIS #1, &SFRIE1          4 cycles, tick 12
+        0xD392, 0x0102, // BIS #1, &SFRIFG1         4 cycles, tick 16
+        0x0180, 0x0000, // MOVA #10000h, PC         4 cycles, tick 20
+    ];
+    let far = [
+        0xD232, // BIS #8, SR                       1 cycle, tick 24
+        0x43D2, 0x0202, // MOV.B #1, &P1OUT         tick 36, behind 6 ticks of the entry and 5 of RETI
+        0x3FFF, // JMP $
+    ];
+    let file = image(
+        rt.alloc(),
+        &[
+            (0x4400, &code),
+            (0x4440, &[0x1300]),
+            (0x1_0000, &far),
+            (0xFFF2, &[0x4440]),
+            (0xFFFE, &VECTOR),
+        ],
+    )?;
+    let text = "0 ON\n2 BOOT 00 00000 00000\n9 PIN P1 zzzzzzz0\n36 PIN P1 zzzzzzz1\n40 END\n";
+    run_under(file.as_slice(), "version = 1\nend = 40\n").gives(&rt, Status::Done, text)?;
     Ok(())
 }

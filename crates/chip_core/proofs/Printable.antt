@@ -1,9 +1,9 @@
 -- Each line of a tick has room for its values.
 use Rattle.std.proofs.Common.{ℕ, zero, suc, ◌≤◌, Bool, true, false, List, [], ◌∷◌, ◌++◌, arith}
-use Rattle.std.specs.Prelude.{All, Option, Some, None, if◌then◌else◌}
+use Rattle.std.specs.Prelude.{◌&&◌, All, Option, Some, None, if◌then◌else◌}
 use Rattle.std.proofs.lemmas.List.Elements.{All-append}
 use Rattle.trace_print.specs.declared.items.TraceItem.{TraceItem}
-use Rattle.trace_print.specs.declared.items.TraceItem.TheVariants.{On, Boot, Dead, Pin, Stop}
+use Rattle.trace_print.specs.declared.items.TraceItem.TheVariants.{On, Boot, Reset, Dead, Pin, Stop}
 use Rattle.trace_print.specs.Lines.{IsPrintable}
 use Rattle.chip_core.specs.declared.boots.Place.{Place}
 use Rattle.chip_core.specs.declared.boots.Place.TheVariants.{Start, Sig, Done}
@@ -11,8 +11,8 @@ use Rattle.chip_core.specs.declared.pins.Pins.{Pins}
 use Rattle.stimulus.specs.Stimulus.{Stimulus}
 use Rattle.chip_core.specs.State.{State}
 use Rattle.chip_core.specs.Pins.{pins_of, pin_lines, port_line, port_of, levels_of, same_pins}
-use Rattle.chip_core.specs.Tick.{owned, ready}
-use Rattle.chip_core.specs.Lines.{lines_of, power_lines, boot_lines, turn_lines}
+use Rattle.chip_core.specs.Tick.{owned, ready, reset, taken_cause}
+use Rattle.chip_core.specs.Lines.{boot_lines, dead_lines, is_restart, lines_of, power_lines, reset_lines, turn_lines}
 
 none : All IsPrintable []
 none k d h = absurd (omega (arith, h))
@@ -34,21 +34,34 @@ unfolding port_line
 port_line-IsPrintable port before after low high =
     either (same_pins (port_of port before) (port_of port after)) [] (Pin port (levels_of (port_of port after)) ∷ []) none (one (Pin port (levels_of (port_of port after))) (low, high))
 
-boot_lines-IsPrintable : (place : Option Place) (after : State) → All IsPrintable (boot_lines place after)
-boot_lines-IsPrintable (Some Done) after =
-    more (Boot 0 0 0) (if after.dead then Dead ∷ [] else []) (omega arith, omega arith) (either after.dead (Dead ∷ []) [] (one Dead tt) none)
-boot_lines-IsPrintable (Some Start) after = none
-boot_lines-IsPrintable (Some Sig) after = none
-boot_lines-IsPrintable None after = none
+boot_lines-IsPrintable : (place : Option Place) → All IsPrintable (boot_lines place)
+boot_lines-IsPrintable (Some Done) = one (Boot 0 0 0) (omega arith, omega arith)
+boot_lines-IsPrintable (Some Start) = none
+boot_lines-IsPrintable (Some Sig) = none
+boot_lines-IsPrintable None = none
 
-turn_lines-IsPrintable : (place : Option Place) (before : Pins) (after : State) → All IsPrintable (turn_lines place before after)
-turn_lines-IsPrintable place before after =
-    either (after.bus).stop (Stop ∷ []) (boot_lines place after ++ pin_lines before (pins_of after)) (one Stop tt)
-    (All-append IsPrintable (boot_lines place after) (pin_lines before (pins_of after)) (boot_lines-IsPrintable place after)
-    (All-append IsPrintable (port_line 1 before (pins_of after)) (port_line 2 before (pins_of after)) (port_line-IsPrintable 1 before (pins_of after) (omega arith) (omega arith)) (port_line-IsPrintable 2 before (pins_of after) (omega arith) (omega arith))))
+reset_lines-IsPrintable : (cause : Option ℕ) → All IsPrintable (reset_lines cause)
+reset_lines-IsPrintable (Some cause) = one (Reset cause) tt
+reset_lines-IsPrintable None = none
+
+pin_lines-IsPrintable : (before after : Pins) → All IsPrintable (pin_lines before after)
+pin_lines-IsPrintable before after =
+    All-append IsPrintable (port_line 1 before after) (port_line 2 before after)
+    (port_line-IsPrintable 1 before after (omega arith) (omega arith))
+    (port_line-IsPrintable 2 before after (omega arith) (omega arith))
+
+turn_lines-IsPrintable : (place : Option Place) (cause : Option ℕ) (before : Pins) (after : State) → All IsPrintable (turn_lines place cause before after)
+turn_lines-IsPrintable place cause before after =
+    either (after.bus).stop (Stop ∷ []) (boot_lines place ++ reset_lines cause ++ dead_lines place cause after ++ pin_lines before (pins_of after)) (one Stop tt)
+    (All-append IsPrintable (boot_lines place ++ reset_lines cause ++ dead_lines place cause after) (pin_lines before (pins_of after))
+    (All-append IsPrintable (boot_lines place ++ reset_lines cause) (dead_lines place cause after)
+    (All-append IsPrintable (boot_lines place) (reset_lines cause) (boot_lines-IsPrintable place) (reset_lines-IsPrintable cause))
+    (either (is_restart place cause && after.dead) (Dead ∷ []) [] (one Dead tt) none))
+    (pin_lines-IsPrintable before (pins_of after)))
 
 pub printable : (bench : Stimulus) (chip : State) → All IsPrintable (lines_of bench chip)
 unfolding lines_of
 printable bench chip =
-    All-append IsPrintable (power_lines chip) (turn_lines (ready bench chip).boot (pins_of chip) (owned (ready bench chip))) (either chip.powered [] (On ∷ []) none (one On tt))
-    (turn_lines-IsPrintable (ready bench chip).boot (pins_of chip) (owned (ready bench chip)))
+    let moved : State = owned (ready bench chip) in
+    All-append IsPrintable (power_lines chip) (turn_lines (ready bench chip).boot (taken_cause moved) (pins_of chip) (reset moved)) (either chip.powered [] (On ∷ []) none (one On tt))
+    (turn_lines-IsPrintable (ready bench chip).boot (taken_cause moved) (pins_of chip) (reset moved))

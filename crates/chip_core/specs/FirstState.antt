@@ -4,7 +4,7 @@ use Rattle.std.specs.List.{range_with_len}
 use Rattle.chip_words.specs.Map.{is_fram, is_sram}
 use Rattle.chip_words.specs.Memory.{memory_size}
 use Rattle.chip_words.specs.Registers.{no_registers}
-use Rattle.chip_words.specs.Sys.{sys_at_reset}
+use Rattle.chip_words.specs.Sys.{first_sys}
 use Rattle.chip_words.specs.Ports.{first_ports}
 use Rattle.chip_words.specs.Units.{Units}
 use Rattle.chip_words.specs.BusPart.{BusPart}
@@ -26,7 +26,7 @@ HoldsFirst image fill old new =
     (at : ℕ) → slice_index new at ≡ (if is_fram at then byte_of image at else if is_sram at then fill else slice_index old at)
 
 abbrev pub first_units : Units
-first_units = record { sys = sys_at_reset; ports = first_ports }
+first_units = record { sys = first_sys; ports = first_ports }
 
 abbrev pub first_bus : List Segment → ℕ → BusPart
 first_bus image fill = record {
@@ -39,7 +39,7 @@ first_bus image fill = record {
   stop = false;
 }
 
--- power is off, and all else is as a BOR leaves it
+-- power is off, and all else is as a BOR leaves it, but for its cause
 abbrev pub first_state : List Segment → ℕ → State
 first_state image fill = record {
   bus = first_bus image fill;

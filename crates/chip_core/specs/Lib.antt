@@ -1,6 +1,7 @@
 pub mod FlatBus
 pub mod Kinds
 pub mod Boot
+pub mod Entry
 pub mod State
 pub mod FirstState
 pub mod Pins

@@ -1,28 +1,46 @@
 -- The lines that a tick gives, in their order.
-use Rattle.std.specs.Prelude.{if◌then◌else◌, List, [], ◌∷◌, ◌++◌, Option, Some}
+use Rattle.std.specs.Prelude.{ℕ, ◌&&◌, Bool, true, false, if◌then◌else◌, List, [], ◌∷◌, ◌++◌, Option, Some, None}
 use Rattle.trace_print.specs.declared.items.TraceItem.{TraceItem}
-use Rattle.trace_print.specs.declared.items.TraceItem.TheVariants.{On, Boot, Dead, Stop}
+use Rattle.trace_print.specs.declared.items.TraceItem.TheVariants.{On, Boot, Reset, Dead, Stop}
 use Rattle.chip_core.specs.declared.boots.Place.{Place}
 use Rattle.chip_core.specs.declared.boots.Place.TheVariants.{Done}
 use Rattle.chip_core.specs.declared.pins.Pins.{Pins}
 use Rattle.stimulus.specs.Stimulus.{Stimulus}
 use Rattle.chip_core.specs.State.{State}
 use Rattle.chip_core.specs.Pins.{pins_of, pin_lines}
-use Rattle.chip_core.specs.Tick.{owned, ready}
+use Rattle.chip_core.specs.Tick.{owned, ready, reset, taken_cause}
 
 -- ON: power came on
 abbrev pub power_lines : State → List TraceItem
 power_lines chip = if chip.powered then [] else On ∷ []
 
--- BOOT: a boot ended, with no encapsulation in force; DEAD: there was no reset vector
-abbrev pub boot_lines : Option Place → State → List TraceItem
-boot_lines (Some Done) after = Boot 0 0 0 ∷ (if after.dead then Dead ∷ [] else [])
-boot_lines place after = []
+-- BOOT: a boot ended, with no encapsulation in force
+abbrev pub boot_lines : Option Place → List TraceItem
+boot_lines (Some Done) = Boot 0 0 0 ∷ []
+boot_lines place = []
 
--- what the owner's turn shows, from the place of the boot and the pins before it
-abbrev pub turn_lines : Option Place → Pins → State → List TraceItem
-turn_lines place before after =
-    if (after.bus).stop then Stop ∷ [] else boot_lines place after ++ pin_lines before (pins_of after)
+-- RST: a reset was taken, with its cause
+abbrev pub reset_lines : Option ℕ → List TraceItem
+reset_lines (Some cause) = Reset cause ∷ []
+reset_lines None = []
+
+-- the reset vector may have been loaded: a boot ended, or a reset was taken
+abbrev pub is_restart : Option Place → Option ℕ → Bool
+is_restart place (Some cause) = true
+is_restart (Some Done) None = true
+is_restart place None = false
+
+-- DEAD: there was no reset vector
+abbrev pub dead_lines : Option Place → Option ℕ → State → List TraceItem
+dead_lines place cause after = if is_restart place cause && after.dead then Dead ∷ [] else []
+
+-- what the tick shows behind its stimulus, from the place of the boot, the cause that was taken, and the pins before it
+abbrev pub turn_lines : Option Place → Option ℕ → Pins → State → List TraceItem
+turn_lines place cause before after =
+    if (after.bus).stop then Stop ∷ []
+    else boot_lines place ++ reset_lines cause ++ dead_lines place cause after ++ pin_lines before (pins_of after)
 
 unfoldable pub lines_of : Stimulus → State → List TraceItem
-lines_of bench chip = power_lines chip ++ turn_lines (ready bench chip).boot (pins_of chip) (owned (ready bench chip))
+lines_of bench chip =
+    power_lines chip
+    ++ turn_lines (ready bench chip).boot (taken_cause (owned (ready bench chip))) (pins_of chip) (reset (owned (ready bench chip)))

@@ -3,21 +3,30 @@ ghost use Rattle.trace_print.specs.Lines.{IsPrintable};
 ghost use Rattle.chip_core.specs.FirstState.{first_state};
 ghost use Rattle.stimulus.specs.Events.{IsPinAct};
 ghost use Rattle.arrayvec.specs.ArrayVec.{array_vec_len};
+ghost use Rattle.chip_words.specs.Causes.{is_of_bor as is_of_bor_cause};
 ghost use Rattle.chip_core.specs.Pins.{pins_of};
-ghost use Rattle.chip_core.specs.Tick.{after_event, after_events, at_reset_vector, boot_turn, instructed, is_off as is_off_state, owned, powered, processor_turn, stimulated, ticked};
-ghost use Rattle.chip_core.specs.Lines.{lines_of, power_lines, boot_lines, turn_lines};
+ghost use Rattle.chip_core.specs.Tick.{accepted_by, after_bor, after_event, after_events, after_puc, at_reset_vector, boot_turn, entered, free_turn, instructed, is_off as is_off_state, owned, powered, processor_turn, reset as reset_of, stimulated, taken_cause, takes_interrupts as takes_interrupts_state, ticked};
+ghost use Rattle.chip_core.specs.Lines.{boot_lines, dead_lines, lines_of, power_lines, reset_lines, turn_lines};
 
-use crate::Lines;
 use crate::boots::{self, BootStep, Place};
 use crate::flat_bus::Fabric;
 use crate::pins::Pins;
+use crate::{Lines, entries};
 use chip_words::{NoMemory, Regs};
 use cpux_extended::{Outcome, step};
 use elf_image::Image;
+use interrupt_reset::best;
 use std::alloc::Global;
 use std::marker::Model;
 use stimulus::{Bench, EventAct};
 use trace_print::TraceItem;
+
+/// The cause of the BOR when power comes on.
+const POWER_ON: u8 = 0x02;
+/// The cause of the PUC for a reserved word.
+const RESERVED_WORD: u8 = 0x40;
+/// The ticks of an entry behind its first.
+const BUSY_ENTRY: u32 = 5;
 
 /// The chip: the processor and its bus between two ticks.
 ///
@@ -99,7 +108,8 @@ impl Chip {
         self.stimulate(bench);
         let place = self.boot;
         self.own();
-        self.tell(place, &pins, lines);
+        let cause = self.reset();
+        self.tell(place, cause, &pins, lines);
         self.fabric.end_tick();
         self.tick = next;
     }
@@ -111,29 +121,30 @@ impl Chip {
         self.fabric.is_stopped()
     }
 
-    /// Adds what the owner's turn shows, from the place of the boot and the pins before it.
-    fn tell(&self, place: Option<Place>, before: &Pins, lines: &mut Lines)
+    /// Adds what the tick shows behind its stimulus, from the place of the boot, the cause that was taken,
+    /// and the pins before it.
+    fn tell(&self, place: Option<Place>, cause: Option<u8>, before: &Pins, lines: &mut Lines)
         requires { array_vec_len lines.old ≤ 10 }
-        ensures { lines.new.items ≡ lines.old.items ++ turn_lines place before.now self.now }
+        ensures { lines.new.items ≡ lines.old.items ++ turn_lines place cause before.now self.now }
     {
         if self.is_stopped() {
             lines.push(TraceItem::Stop);
         } else {
-            self.tell_boot(place, lines);
+            tell_boot(place, lines);
+            tell_reset(cause, lines);
+            self.tell_dead(place, cause, lines);
             before.tell_changes(&self.pins(), lines);
         }
     }
 
-    fn tell_boot(&self, place: Option<Place>, lines: &mut Lines)
-        requires { array_vec_len lines.old ≤ 10 }
-        ensures lines { lines.new.items ≡ lines.old.items ++ boot_lines place self.now }
-        ensures count { array_vec_len lines.new ≤ array_vec_len lines.old + 2 }
+    fn tell_dead(&self, place: Option<Place>, cause: Option<u8>, lines: &mut Lines)
+        requires { array_vec_len lines.old ≤ 12 }
+        ensures lines { lines.new.items ≡ lines.old.items ++ dead_lines place cause self.now }
+        ensures count { array_vec_len lines.new ≤ array_vec_len lines.old + 1 }
     {
-        if let Some(Place::Done) = place {
-            lines.push(TraceItem::Boot(0, 0, 0));
-            if self.dead {
-                lines.push(TraceItem::Dead);
-            }
+        let is_restart = cause.is_some() || place == Some(Place::Done);
+        if is_restart && self.dead {
+            lines.push(TraceItem::Dead);
         }
     }
 
@@ -146,14 +157,48 @@ impl Chip {
         ensures count { array_vec_len lines.new ≤ 1 }
     {
         if !self.powered {
-            self.fabric.reset();
-            self.regs = Regs::zero();
-            self.busy = 0;
-            self.boot = Some(Place::Start);
-            self.dead = false;
+            self.start_boot(POWER_ON);
             self.powered = true;
             lines.push(TraceItem::On);
         }
+    }
+
+    /// A BOR with a cause.
+    fn start_boot(&mut self, cause: u8)
+        ensures { self.new ≡ after_bor cause self.old }
+    {
+        self.fabric.reset(true, cause);
+        self.regs = Regs::zero();
+        self.busy = 0;
+        self.boot = Some(Place::Start);
+        self.dead = false;
+    }
+
+    /// A PUC with a cause.
+    fn restart(&mut self, cause: u8)
+        ensures { self.new ≡ after_puc cause self.old }
+    {
+        self.fabric.reset(false, cause);
+        self.regs.set(2, 0);
+        self.busy = 0;
+        self.load_vector();
+    }
+
+    /// The reset: takes the least cause that was requested in the tick, if there is one, and gives it.
+    #[tactic(auto, unfolding(crate::specs::Tick::reset))]
+    fn reset(&mut self) -> Option<u8>
+        ensures cause { result ≡ taken_cause self.old }
+        ensures chip { self.new ≡ reset_of self.old }
+    {
+        let cause = self.fabric.pending();
+        if let Some(cause) = cause {
+            if is_of_bor(cause) {
+                self.start_boot(cause);
+            } else {
+                self.restart(cause);
+            }
+        }
+        cause
     }
 
     /// Does the events of the tick, in the order of the bench.
@@ -202,14 +247,21 @@ impl Chip {
         }
     }
 
-    /// Ends the boot: PC is the reset vector, and where there is none the processor is dead.
+    /// Ends the boot.
     fn start(&mut self)
         ensures { self.new ≡ record (at_reset_vector self.old) { boot = None } }
+    {
+        self.load_vector();
+        self.boot = None;
+    }
+
+    /// PC is the reset vector, and where there is none the processor is dead.
+    fn load_vector(&mut self)
+        ensures { self.new ≡ at_reset_vector self.old }
     {
         let vector = self.fabric.reset_vector();
         self.regs.set(0, vector);
         self.dead = vector == 0xFFFF;
-        self.boot = None;
     }
 
     /// The processor's turn.
@@ -219,9 +271,30 @@ impl Chip {
     {
         if self.busy > 0 {
             self.busy -= 1;
-        } else if !self.dead && !self.is_off() {
-            self.instruct();
+        } else if !self.dead {
+            self.turn_freely();
         }
+    }
+
+    /// The turn of a processor that isn't busy: an interrupt, or an instruction.
+    fn turn_freely(&mut self)
+        ensures { self.new ≡ free_turn (accepted_by self.old) self.old }
+    {
+        match best(self.fabric.lines(), self.takes_interrupts(), false) {
+            Some(vector) => self.enter(vector),
+            None => {
+                if !self.is_off() {
+                    self.instruct();
+                }
+            }
+        }
+    }
+
+    /// GIE of SR.
+    fn takes_interrupts(&self) -> bool
+        ensures { result ≡ takes_interrupts_state self.now }
+    {
+        (self.regs.get(2) >> 3) & 1 == 1
     }
 
     /// CPUOFF of SR.
@@ -240,7 +313,46 @@ impl Chip {
         self.fabric.end_step();
         match outcome {
             Outcome::Cycles(cycles) => self.busy = cycles.saturating_sub(1),
-            Outcome::Reserved => self.fabric.stop(),
+            Outcome::Reserved => self.fabric.request(RESERVED_WORD),
         }
+    }
+
+    /// Enters the interrupt of a vector.
+    #[tactic(auto, unfolding(crate::specs::Tick::entered))]
+    fn enter(&mut self, vector: u32)
+        requires { vector < 0x100000 }
+        ensures { self.new ≡ entered vector self.old }
+    {
+        entries::enter(&mut self.regs, &mut self.fabric, vector);
+        self.fabric.entered(vector);
+        self.fabric.end_step();
+        self.busy = BUSY_ENTRY;
+    }
+}
+
+/// Says whether a cause is that of a BOR.
+fn is_of_bor(cause: u8) -> bool
+    ensures { result ≡ is_of_bor_cause cause }
+{
+    matches!(cause, 0x02 | 0x04 | 0x06)
+}
+
+fn tell_boot(place: Option<Place>, lines: &mut Lines)
+    requires { array_vec_len lines.old ≤ 10 }
+    ensures lines { lines.new.items ≡ lines.old.items ++ boot_lines place }
+    ensures count { array_vec_len lines.new ≤ array_vec_len lines.old + 1 }
+{
+    if let Some(Place::Done) = place {
+        lines.push(TraceItem::Boot(0, 0, 0));
+    }
+}
+
+fn tell_reset(cause: Option<u8>, lines: &mut Lines)
+    requires { array_vec_len lines.old ≤ 11 }
+    ensures lines { lines.new.items ≡ lines.old.items ++ reset_lines cause }
+    ensures count { array_vec_len lines.new ≤ array_vec_len lines.old + 1 }
+{
+    if let Some(cause) = cause {
+        lines.push(TraceItem::Reset(cause));
     }
 }

@@ -1,23 +1,34 @@
-ghost use Rattle.std.specs.Prelude.{◌≡◌, ℕ, ◌+◌, ◌-◌, ◌%◌, ◌<◌, ◌≤◌, [], ◌++◌, None, true, false, if◌then◌else◌, IfOk, IsTrue, slice_index, length, replicate, vec_len};
+ghost use Rattle.std.specs.Prelude.{◌≡◌, ℕ, ◌+◌, ◌-◌, ◌%◌, ◌<◌, ◌≤◌, [], ◌++◌, None, Some, true, false, if◌then◌else◌, IfOk, IfSome, IsTrue, slice_index, length, replicate, vec_len};
 ghost use Rattle.memory_map.specs.declared.TheConstants.{MAIN_END};
-ghost use Rattle.chip_words.specs.Bits.{part_of, with_part};
 ghost use Rattle.chip_words.specs.Sizes.{IsByteOrWord, span};
 ghost use Rattle.chip_words.specs.BusPart.{HasRoom};
 ghost use Rattle.chip_words.specs.Map.{region_at, is_sram, aligned as aligned_at};
-ghost use Rattle.chip_words.specs.Ports.{driven};
+ghost use Rattle.chip_words.specs.Bits.{part_of};
+ghost use Rattle.chip_words.specs.Causes.{least_cause};
+ghost use Rattle.chip_words.specs.Ports.{driven, ports_written};
+ghost use Rattle.chip_words.specs.Sys.{sys_cause, sys_touched, sys_written};
 ghost use Rattle.chip_words.specs.Memory.{loaded, memory_size as memory_size_of};
 ghost use Rattle.chip_core.specs.FirstState.{HoldsFirst, first_bus, first_memory};
 ghost use Rattle.chip_core.specs.Kinds.{is_write};
-ghost use Rattle.chip_words.specs.Units.{is_built as is_built_at, periph, units_at_reset, with_word, word_of};
-ghost use Rattle.chip_words.specs.Access.{blank as blank_of, entry_of, granted, is_beyond_boot as is_beyond_boot_of, is_low_start as is_low_start_of, is_over, judged, made, numbered, ones as ones_of, present, replied};
+ghost use Rattle.chip_words.specs.Units.{is_built as is_built_at, periph, units_at_reset, units_entered, units_lines, word_of};
+ghost use Rattle.chip_words.specs.Access.{blank as blank_of, entry_of, granted, is_beyond_boot as is_beyond_boot_of, is_low_start as is_low_start_of, is_over, judged, made, numbered, ones as ones_of, present, replied, requested};
 
 use crate::port_pins::Ports;
-use crate::system::Sys;
 use arrayvec::ArrayVec;
-use chip_words::{Access, Agent, Bus, Kind, NoMemory, Size, load, memory_size, store};
+use chip_words::{
+    Access, Agent, Bus, Kind, NoMemory, Size, load, memory_size, part, store, word_with_part,
+};
 use elf_image::Image;
+use interrupt_reset::Sys;
 use memory_map::{MAIN_END, Region, SRAM_END, SRAM_START, aligned, is_fram, region_of};
 use std::alloc::Global;
+
+/// The cause of the PUC for an instruction that begins in the peripherals.
+const LOW_START: u8 = 0x1E;
+/// The vector of the watchdog as an interval timer (SLAS704, interrupt vector table).
+const WATCHDOG_VECTOR: u32 = 0xFFF2;
+/// Its row of the interrupt lines.
+const WATCHDOG_ROW: u8 = 2;
 
 /// The bus part of the chip over one flat memory.
 #[derive(Drop)]
@@ -90,42 +101,6 @@ fn load_memory(alloc: Global, image: &Image<'_>, fill: u8) -> Result<Vec<u8>, No
     }
 }
 
-/// The part of a word that an access of a width reads at an address.
-fn part(size: Size, at: u32, word: u16) -> u32
-    requires { IsByteOrWord size }
-    ensures value { result ≡ part_of size at word }
-    ensures small { result < span size }
-{
-    match size {
-        Size::Byte => {
-            if at % 2 == 0 {
-                (word & 0xFF) as u32
-            } else {
-                (word >> 8) as u32
-            }
-        }
-        Size::Word | Size::Addr => word as u32,
-    }
-}
-
-/// A word after an access of a width wrote its part of it.
-fn word_with_part(size: Size, at: u32, word: u16, value: u16) -> u16
-    requires width { IsByteOrWord size }
-    requires fits { value < span size }
-    ensures { result ≡ with_part size at word value }
-{
-    match size {
-        Size::Byte => {
-            if at % 2 == 0 {
-                (word >> 8) * 0x100 + value
-            } else {
-                value * 0x100 + (word & 0xFF)
-            }
-        }
-        Size::Word | Size::Addr => value,
-    }
-}
-
 /// What is read where nothing answers.
 fn blank(size: Size) -> u32
     requires { IsByteOrWord size }
@@ -184,7 +159,7 @@ impl Fabric {
         };
         Ok(Fabric {
             memory,
-            sys: Sys::at_reset(),
+            sys: Sys::new(),
             ports: Ports::new(),
             fill,
             budget: None,
@@ -194,12 +169,44 @@ impl Fabric {
         })
     }
 
-    /// Sets the peripherals to their values after a BOR.
-    pub fn reset(&mut self)
-        ensures { bus_part_of self.new ≡ record (bus_part_of self.old) { units = units_at_reset (bus_part_of self.old).units } }
+    /// A BOR or a PUC of the peripherals, with its cause.
+    pub fn reset(&mut self, bor: bool, cause: u8)
+        ensures { bus_part_of self.new ≡ record (bus_part_of self.old) { units = units_at_reset bor cause (bus_part_of self.old).units } }
     {
-        self.sys = Sys::at_reset();
+        self.sys.reset(bor);
+        self.sys.taken(cause);
         self.ports.reset();
+    }
+
+    /// Requests a reset with a cause.
+    pub fn request(&mut self, cause: u8)
+        requires { cause < 65 }
+        ensures { bus_part_of self.new ≡ requested (Some cause) (bus_part_of self.old) }
+    {
+        self.sys.request(cause);
+    }
+
+    /// The least cause that is requested.
+    pub fn pending(&self) -> Option<u8>
+        ensures { result ≡ least_cause (((bus_part_of self.now).units.sys).requested) }
+    {
+        self.sys.pending()
+    }
+
+    /// The interrupt lines, of which bit i is row i.
+    pub fn lines(&self) -> u16
+        ensures { result ≡ units_lines (bus_part_of self.now).units }
+    {
+        self.sys.lines()
+    }
+
+    /// An interrupt was entered: the flag of its line is cleared, where the line has a single one.
+    pub fn entered(&mut self, vector: u32)
+        ensures { bus_part_of self.new ≡ record (bus_part_of self.old) { units = units_entered vector (bus_part_of self.old).units } }
+    {
+        if vector == WATCHDOG_VECTOR {
+            self.sys.entered(WATCHDOG_ROW);
+        }
     }
 
     /// Sets the external level of pin `bit`, 0 to 7, of a port, 1 to 4.
@@ -258,30 +265,40 @@ impl Fabric {
     pub fn outputs(&self) -> u16
         ensures { result ≡ (if ((bus_part_of self.now).units.sys).locked then 0 else (((bus_part_of self.now).units.ports).first).direction) }
     {
-        if self.sys.is_locked() {
+        if self.sys.locked() {
             0
         } else {
             self.ports.direction()
         }
     }
 
-    /// The word of the peripheral register at an even address.
-    fn register(&self, at: u32) -> u16
-        ensures { result ≡ word_of (bus_part_of self.now).units at }
+    /// A read of a peripheral register.
+    fn take(&mut self, at: u32, size: Size) -> u32
+        requires { IsByteOrWord size }
+        ensures small { result < span size }
+        ensures answer { result ≡ part_of size at (word_of (bus_part_of self.old).units (at - at % 2)) }
+        ensures chip { bus_part_of self.new ≡ record (bus_part_of self.old) { units = record ((bus_part_of self.old).units) { sys = sys_touched ((bus_part_of self.old).units.sys) at } } }
     {
         if at < 0x0200 {
-            self.sys.word(at)
+            self.sys.read(at, size)
         } else {
-            self.ports.word(at, self.sys.is_locked())
+            part(size, at, self.ports.word(at & !1, self.sys.locked()))
         }
     }
 
-    /// Writes the word of the peripheral register at an even address.
-    fn set_register(&mut self, at: u32, word: u16)
-        ensures { bus_part_of self.new ≡ record (bus_part_of self.old) { units = with_word (bus_part_of self.old).units at word } }
+    /// A write of a peripheral register, and the cause of the reset that it asks for.
+    fn give(&mut self, at: u32, size: Size, value: u32) -> Option<u8>
+        requires width { IsByteOrWord size }
+        requires fits { value < span size }
+        ensures cause { result ≡ sys_cause ((bus_part_of self.old).units.sys) at size value }
+        ensures number { IfSome result (λ cause. cause < 65) }
+        ensures chip { bus_part_of self.new ≡ record (bus_part_of self.old) { units = record { sys = sys_written ((bus_part_of self.old).units.sys) at size value; ports = ports_written ((bus_part_of self.old).units.ports) ((bus_part_of self.old).units.sys).locked at size value } } }
     {
-        self.sys.set_word(at, word);
-        self.ports.set_word(at, word);
+        let even = at & !1;
+        let word = self.ports.word(even, self.sys.locked());
+        self.ports
+            .set_word(even, word_with_part(size, at, word, value as u16));
+        self.sys.write(at, size, value)
     }
 
     /// An access to a peripheral register.
@@ -293,15 +310,15 @@ impl Fabric {
         ensures answer { result ≡ (replied (periph (bus_part_of self.old).units kind at size value) (bus_part_of self.old)).answer }
         ensures chip { bus_part_of self.new ≡ (replied (periph (bus_part_of self.old).units kind at size value) (bus_part_of self.old)).chip }
     {
-        let even = at & !1;
-        let word = self.register(even);
-        self.stop = self.stop || !is_built(even);
+        self.stop = self.stop || !is_built(at & !1);
         match kind {
             Kind::Write => {
-                self.set_register(even, word_with_part(size, at, word, value as u16));
+                if let Some(cause) = self.give(at, size, value) {
+                    self.request(cause);
+                }
                 value
             }
-            Kind::Fetch | Kind::Read => part(size, at, word),
+            Kind::Fetch | Kind::Read => self.take(at, size),
         }
     }
 
@@ -381,8 +398,8 @@ impl Fabric {
         ensures chip { bus_part_of self.new ≡ (made who kind at size value (bus_part_of self.old)).chip }
     {
         if is_low_start(who, kind, at) {
-            self.stop = true;
-            return 0;
+            self.request(LOW_START);
+            return blank(size);
         }
         self.judge(None, who, kind, at, size, value)
     }
@@ -439,7 +456,10 @@ impl Fabric {
 fn is_built(at: u32) -> bool
     ensures { result ≡ is_built_at at }
 {
-    matches!(at, 0x0130 | 0x0200 | 0x0202 | 0x0204)
+    matches!(
+        at,
+        0x0100 | 0x0102 | 0x0120 | 0x0130 | 0x0180 | 0x019C | 0x019E | 0x0200 | 0x0202 | 0x0204
+    )
 }
 
 /// What an access answers where nothing can be written.

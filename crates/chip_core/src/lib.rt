@@ -6,10 +6,10 @@ use trace_print::TraceItem;
 
 mod boots;
 mod chips;
+mod entries;
 mod flat_bus;
 mod pins;
 mod port_pins;
-mod system;
 
 pub use chips::Chip;
 

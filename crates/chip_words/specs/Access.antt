@@ -14,6 +14,7 @@ use Rattle.chip_words.specs.declared.regions.Region.TheVariants.{Periph, Descrip
 use Rattle.chip_words.specs.Map.{region_at, is_fram, aligned}
 use Rattle.chip_words.specs.Memory.{loaded, stored}
 use Rattle.chip_words.specs.Right.{refusal}
+use Rattle.chip_words.specs.Sys.{sys_requested}
 use Rattle.chip_words.specs.Units.{Reply, periph}
 use Rattle.chip_words.specs.BusPart.{BusPart}
 
@@ -31,11 +32,15 @@ abbrev pub ones : Size → ℕ
 ones Byte = 0xFF
 ones size = 0xFFFF
 
+-- a reset was asked for, if there is a cause
+abbrev pub requested : Option ℕ → BusPart → BusPart
+requested cause chip = record chip { units = record (chip.units) { sys = sys_requested cause (chip.units.sys) } }
+
 -- the peripherals' reply; a register that isn't built answers 0 and stops the run
 abbrev pub replied : Reply → BusPart → Outcome
 replied reply chip = record {
   answer = reply.value;
-  chip = record chip { units = reply.units; stop = chip.stop || not reply.built };
+  chip = requested reply.cause (record chip { units = reply.units; stop = chip.stop || not reply.built });
 }
 
 -- what an access that has its right does, by the region of its address
@@ -65,14 +70,15 @@ judged None who kind at size value chip =
     if is_beyond_boot who kind at then record { answer = blank size; chip = chip }
     else granted (region_at at) kind at size value chip
 
--- the processor takes the first word of its instruction from the peripherals, which isn't built
+-- the processor takes the first word of its instruction from the peripherals
 abbrev pub is_low_start : Agent → Kind → ℕ → Bool
 is_low_start (Cpu ia) Fetch at = at == ia && nat_lt at 0x1000
 is_low_start who kind at = false
 
+-- which asks for a reset, and is taken as a word that jumps to itself
 abbrev pub made : Agent → Kind → ℕ → Size → ℕ → BusPart → Outcome
 made who kind at size value chip =
-    if is_low_start who kind at then record { answer = 0; chip = record chip { stop = true } }
+    if is_low_start who kind at then record { answer = blank size; chip = requested (Some 0x1E) chip }
     else judged (refusal chip.units who kind at) who kind at size value chip
 
 -- an access by another agent than the debugger joins the step's list

@@ -5,7 +5,10 @@ pub mod Registers
 pub mod Bits
 pub mod Signed
 pub mod Decimals
+pub mod Passwords
+pub mod Causes
 pub mod Sys
+pub mod Interrupts
 pub mod Ports
 pub mod Units
 pub mod Right

@@ -2,6 +2,8 @@
 -- and the external levels of all pins. Two ports share their even addresses: of each word of a pair the
 -- odd-numbered port is bits 7:0 and the even-numbered one bits 15:8.
 use Rattle.std.specs.Prelude.{ℕ, ◌+◌, ◌-◌, ◌%◌, ◌^◌, ◌==◌, nat_le, Bool, if◌then◌else◌, bit_and, bit_or}
+use Rattle.chip_words.specs.declared.sizes.Size.{Size}
+use Rattle.chip_words.specs.Bits.{with_part}
 
 pub record PortPair : Type 0 where
   -- the external levels of the pins, which are no register
@@ -17,7 +19,7 @@ pub record Ports : Type 0 where
   -- P3 and P4
   pub second : PortPair
 
--- a BOR leaves the external levels
+-- every reset leaves the external levels
 abbrev pub pair_at_reset : PortPair → PortPair
 pair_at_reset pair = record pair { out = 0; direction = 0 }
 
@@ -58,6 +60,11 @@ ports_word ports locked at = pair_word ports.first locked 0x0200 at
 
 abbrev pub with_ports_word : Ports → ℕ → ℕ → Ports
 with_ports_word ports at word = record ports { first = with_pair_word ports.first 0x0200 at word }
+
+-- the ports after a write
+abbrev pub ports_written : Ports → Bool → ℕ → Size → ℕ → Ports
+ports_written ports locked at size value =
+    with_ports_word ports (at - at % 2) (with_part size at (ports_word ports locked (at - at % 2)) value)
 
 -- a pair of levels after the one at a place was set
 abbrev pub with_level : PortPair → ℕ → Bool → PortPair

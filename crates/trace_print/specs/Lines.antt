@@ -1,7 +1,7 @@
 -- The lines of a trace.
 use Rattle.std.specs.Prelude.{ℕ, ◌^◌, ◌<◌, ◌≤◌, List, ◌++◌, codes, decimal}
 use Rattle.trace_print.specs.declared.items.TraceItem.{TraceItem}
-use Rattle.trace_print.specs.declared.items.TraceItem.TheVariants.{On, Boot, Dead, Pin, End, Stop}
+use Rattle.trace_print.specs.declared.items.TraceItem.TheVariants.{On, Boot, Reset, Dead, Pin, End, Stop}
 use Rattle.trace_print.specs.Digits.{hex_digits}
 use Rattle.trace_print.specs.Levels.{letters_of}
 
@@ -16,6 +16,7 @@ abbrev pub text_of : TraceItem → List ℕ
 text_of On = codes "ON"
 text_of (Boot control first_border second_border) =
     codes "BOOT " ++ hex_digits 2 control ++ codes " " ++ hex_digits 5 first_border ++ codes " " ++ hex_digits 5 second_border
+text_of (Reset cause) = codes "RST " ++ hex_digits 2 cause
 text_of Dead = codes "DEAD"
 text_of (Pin port levels) = codes "PIN P" ++ decimal port ++ codes " " ++ letters_of levels
 text_of End = codes "END"

@@ -9,6 +9,8 @@ pub enum TraceItem {
     /// A boot ended with these in force: the control bits of IP Encapsulation (MPUIPC0), its first and
     /// its second border as addresses.
     Boot(u8, u32, u32),
+    /// A reset was taken, with its cause (SYSRSTIV).
+    Reset(u8),
     /// The reset vector was FFFFh, so the processor stands still.
     Dead,
     /// The levels of a port changed: the port's number, from 1 to 4, and the new level of each bit, of

@@ -37,6 +37,7 @@ fn push_item(line: &mut Line, item: &TraceItem)
         TraceItem::Boot(control, first_border, second_border) => {
             push_boot(line, control, first_border, second_border)
         }
+        TraceItem::Reset(cause) => push_reset(line, cause),
         TraceItem::Dead => push_text(line, b"DEAD"),
         TraceItem::Pin(port, levels) => push_pin(line, port, &levels),
         TraceItem::End => push_text(line, b"END"),
@@ -56,6 +57,16 @@ fn push_boot(line: &mut Line, control: u8, first_border: u32, second_border: u32
     push_hex(line, 5, first_border);
     line.push(b' ');
     push_hex(line, 5, second_border);
+}
+
+/// Appends a reset.
+fn push_reset(line: &mut Line, cause: u8)
+    requires { array_vec_len line.old ≤ 11 }
+    ensures text { line.new.items ≡ line.old.items ++ text_of (TraceItem.Reset cause) }
+    ensures len { array_vec_len line.new ≤ 40 }
+{
+    push_text(line, b"RST ");
+    push_hex(line, 2, cause.into());
 }
 
 /// Appends the levels of a port.

@@ -33,6 +33,8 @@ fn each_item_has_its_text(rt: HostRuntime) {
         TraceItem::Boot(0x5E, 0x12345, 0xFABCD),
         "3 BOOT 5E 12345 FABCD\n",
     );
+    shows(&rt, 3, TraceItem::Reset(0x06), "3 RST 06\n");
+    shows(&rt, 32770, TraceItem::Reset(0x2E), "32770 RST 2E\n");
     shows(&rt, 2, TraceItem::Dead, "2 DEAD\n");
     shows(&rt, 7, TraceItem::Pin(1, first), "7 PIN P1 zzzzzzz0\n");
     shows(&rt, 24, TraceItem::Pin(2, second), "24 PIN P2 00001000\n");

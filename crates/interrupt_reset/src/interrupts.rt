@@ -1,0 +1,37 @@
+ghost use Rattle.std.specs.Prelude.{◌≡◌, ◌<◌, ◌≤◌, ◌%◌, IfSome};
+ghost use Rattle.chip_words.specs.Interrupts.{accepted, greatest, standing, vectors};
+
+/// The address of each row's vector, from row 0 on: it falls from row to row.
+const VECTORS: [u32; 13] = [
+    0xFFF6, 0xFFF4, 0xFFF2, 0xFFF0, 0xFFEA, 0xFFE8, 0xFFE4, 0xFFE2, 0xFFE0, 0xFFDE, 0xFFD8, 0xFFD2,
+    0xFFD0,
+];
+
+/// The vector of the NMI.
+const NMI_VECTOR: u32 = 0xFFFC;
+
+/// The address of the vector of the interrupt that is accepted: bit i of `lines` is row i, and `nmi` is a
+/// request of the NMI.
+#[tactic(auto, unfolding(chip_words::specs::Interrupts::accepted))]
+pub fn best(lines: u16, gie: bool, nmi: bool) -> Option<u32>
+    ensures vector { result ≡ accepted lines gie nmi }
+    ensures range { IfSome result (λ vector. (0xFFD0 ≤ vector) × (vector < 0x10000)) }
+    ensures even { IfSome result (λ vector. vector % 2 ≡ 0) }
+{
+    if nmi {
+        Some(NMI_VECTOR)
+    } else if gie {
+        best_of_lines(lines)
+    } else {
+        None
+    }
+}
+
+/// The vectors fall, so the first line that stands has the greatest of theirs.
+fn best_of_lines(lines: u16) -> Option<u32>
+    ensures vector { result ≡ greatest (standing lines 0 vectors) }
+    ensures range { IfSome result (λ vector. (0xFFD0 ≤ vector) × (vector < 0x10000)) }
+    ensures even { IfSome result (λ vector. vector % 2 ≡ 0) }
+{
+    VECTORS.get(lines.trailing_zeros() as usize).copied()
+}
