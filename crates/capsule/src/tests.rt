@@ -363,78 +363,73 @@ fn executes_the_msp430x(rt: HostRuntime) -> Result<(), Fail> {
     Ok(())
 }
 
-/// A program that is run under a bench of its own, and the lines behind the boot's.
-#[derive(Clone, Copy)]
-struct Run<'a> {
-    code: &'a [u16],
-    elsewhere: (u32, &'a [u16]),
-    vector: (u32, &'a [u16]),
-    bench: &'a str,
-    lines: &'a str,
+/// Runs an image of some stretches under a bench, and compares the lines behind the boot's.
+fn shows(
+    rt: &(impl Abort + AllocGlobal),
+    stretches: &[(u32, &[u16])],
+    bench: &str,
+    lines: &str,
+) -> Result<(), Fail> {
+    let alloc = rt.alloc();
+    let file = image(alloc, stretches)?;
+    let mut text = String::from_str(alloc, "0 ON\n2 BOOT 00 00000 00000\n")?;
+    text.push_str(lines)?;
+    run_under(file.as_slice(), bench).gives(rt, Status::Done, text.as_str())
 }
 
-impl Run<'_> {
-    fn compares(&self, rt: &(impl Abort + AllocGlobal)) -> Result<(), Fail> {
-        let alloc = rt.alloc();
-        let file = image(
-            alloc,
-            &[
-                (0x4400, self.code),
-                self.elsewhere,
-                self.vector,
-                (0xFFFE, &VECTOR),
-            ],
-        )?;
-        let mut text = String::from_str(alloc, "0 ON\n2 BOOT 00 00000 00000\n")?;
-        text.push_str(self.lines)?;
-        run_under(file.as_slice(), self.bench).gives(rt, Status::Done, text.as_str())
-    }
-}
-
-/// A program that is all at 4400h.
-fn alone<'a>(code: &'a [u16], bench: &'a str, lines: &'a str) -> Run<'a> {
-    Run {
-        code,
-        elsewhere: (0x4800, &[]),
-        vector: (0xFFF2, &[]),
-        bench,
-        lines,
-    }
+/// The same of a program that is all at 4400h.
+fn shows_code(
+    rt: &(impl Abort + AllocGlobal),
+    code: &[u16],
+    bench: &str,
+    lines: &str,
+) -> Result<(), Fail> {
+    shows(rt, &[(0x4400, code), (0xFFFE, &VECTOR)], bench, lines)
 }
 
 #[test]
 fn takes_resets(rt: HostRuntime) -> Result<(), Fail> {
     // A reserved word, in the first tick behind the boot and behind each reset.
-    alone(
+    shows_code(
+        &rt,
         &[0x1301],
         "version = 1\nend = 6\n",
         "3 RST 40\n4 RST 40\n5 RST 40\n6 END\n",
-    )
-    .compares(&rt)?;
+    )?;
     // SWBOR, behind which the boot has its three ticks again; and both bits at once.
     let bor = "3 RST 06\n6 BOOT 00 00000 00000\n7 RST 06\n9 END\n";
-    alone(&[0x40B2, 0xA504, 0x0120], "version = 1\nend = 9\n", bor).compares(&rt)?;
-    alone(&[0x40B2, 0xA50C, 0x0120], "version = 1\nend = 9\n", bor).compares(&rt)?;
+    shows_code(
+        &rt,
+        &[0x40B2, 0xA504, 0x0120],
+        "version = 1\nend = 9\n",
+        bor,
+    )?;
+    shows_code(
+        &rt,
+        &[0x40B2, 0xA50C, 0x0120],
+        "version = 1\nend = 9\n",
+        bor,
+    )?;
     // SWPOR, and a wrong password.
-    alone(
+    shows_code(
+        &rt,
         &[0x40B2, 0xA508, 0x0120],
         "version = 1\nend = 5\n",
         "3 RST 14\n4 RST 14\n5 END\n",
-    )
-    .compares(&rt)?;
-    alone(
+    )?;
+    shows_code(
+        &rt,
         &[0x40B2, 0x0008, 0x0120],
         "version = 1\nend = 5\n",
         "3 RST 20\n4 RST 20\n5 END\n",
-    )
-    .compares(&rt)?;
+    )?;
     // A jump into the peripherals: 4 cycles, and then the reset.
-    alone(
+    shows_code(
+        &rt,
         &[0x4030, 0x0100],
         "version = 1\nend = 13\n",
         "7 RST 1E\n12 RST 1E\n13 END\n",
-    )
-    .compares(&rt)?;
+    )?;
 
     // A PUC makes P1 an input again, and leaves the lock clear; the program sets it all the same.
     let directions = [
@@ -444,7 +439,7 @@ fn takes_resets(rt: HostRuntime) -> Result<(), Fail> {
     ];
     let lines =
         "7 PIN P1 zzzzzzz0\n10 RST 40\n10 PIN P1 zzzzzzzz\n15 PIN P1 zzzzzzz0\n18 RST 40\n18 PIN P1 zzzzzzzz\n19 END\n";
-    alone(&directions, "version = 1\nend = 19\n", lines).compares(&rt)?;
+    shows_code(&rt, &directions, "version = 1\nend = 19\n", lines)?;
 
     // SYSRSTIV tells the cause once: 02h when power came on, and 40h behind the reserved word.
     let causes = [
@@ -456,16 +451,16 @@ fn takes_resets(rt: HostRuntime) -> Result<(), Fail> {
     ];
     let lines =
         "7 PIN P1 00000000\n10 PIN P1 00000010\n15 PIN P1 00000000\n20 RST 40\n20 PIN P1 zzzzzzzz\n25 PIN P1 00000000\n28 PIN P1 01000000\n33 PIN P1 00000000\n34 END\n";
-    alone(&causes, "version = 1\nend = 34\n", lines).compares(&rt)?;
+    shows_code(&rt, &causes, "version = 1\nend = 34\n", lines)?;
 
     // The program erases its reset vector, in 3 cycles.
     let erased = [0x43B2, 0xFFFE, 0x1301];
-    alone(
+    shows_code(
+        &rt,
         &erased,
         "version = 1\nend = 10\n",
         "6 RST 40\n6 DEAD\n10 END\n",
-    )
-    .compares(&rt)?;
+    )?;
     Ok(())
 }
 
@@ -476,14 +471,17 @@ fn enters_interrupts(rt: HostRuntime) -> Result<(), Fail> {
         0x4031, 0x2400, 0xD392, 0x0100, 0xD392, 0x0102, 0xD232, 0x3FFF,
     ];
     let unlock = [0xC392, 0x0130, 0x43D2, 0x0204, 0x3FFF];
-    Run {
-        code: &bare,
-        elsewhere: (0x4440, &unlock),
-        vector: (0xFFF2, &[0x4440]),
-        bench: "version = 1\nend = 1000\n",
-        lines: "24 PIN P1 zzzzzzz0\n1000 END\n",
-    }
-    .compares(&rt)?;
+    shows(
+        &rt,
+        &[
+            (0x4400, &bare),
+            (0x4440, &unlock),
+            (0xFFF2, &[0x4440]),
+            (0xFFFE, &VECTOR),
+        ],
+        "version = 1\nend = 1000\n",
+        "24 PIN P1 zzzzzzz0\n1000 END\n",
+    )?;
 
     let sleeper = [
         0x4031, 0x2400, // MOV #2400h, SP           2 cycles, tick 3
@@ -503,25 +501,28 @@ fn enters_interrupts(rt: HostRuntime) -> Result<(), Fail> {
         0xD392, 0x0102, // BIS #1, &SFRIFG1         4 cycles
         0x1300, // RETI                             5 cycles, ticks 36, 55 and 74
     ];
-    for (routine, lines) in [
-        (
-            once.as_slice(),
-            "9 PIN P1 zzzzzzz0\n28 PIN P1 zzzzzzz1\n80 END\n",
-        ),
-        (
-            again.as_slice(),
-            "9 PIN P1 zzzzzzz0\n28 PIN P1 zzzzzzz1\n47 PIN P1 zzzzzzz0\n66 PIN P1 zzzzzzz1\n80 END\n",
-        ),
-    ] {
-        Run {
-            code: &sleeper,
-            elsewhere: (0x4440, routine),
-            vector: (0xFFF2, &[0x4440]),
-            bench: "version = 1\nend = 80\n",
-            lines,
-        }
-        .compares(&rt)?;
-    }
+    shows(
+        &rt,
+        &[
+            (0x4400, &sleeper),
+            (0x4440, &once),
+            (0xFFF2, &[0x4440]),
+            (0xFFFE, &VECTOR),
+        ],
+        "version = 1\nend = 80\n",
+        "9 PIN P1 zzzzzzz0\n28 PIN P1 zzzzzzz1\n80 END\n",
+    )?;
+    shows(
+        &rt,
+        &[
+            (0x4400, &sleeper),
+            (0x4440, &again),
+            (0xFFF2, &[0x4440]),
+            (0xFFFE, &VECTOR),
+        ],
+        "version = 1\nend = 80\n",
+        "9 PIN P1 zzzzzzz0\n28 PIN P1 zzzzzzz1\n47 PIN P1 zzzzzzz0\n66 PIN P1 zzzzzzz1\n80 END\n",
+    )?;
     Ok(())
 }
 
@@ -540,8 +541,8 @@ fn returns_above_64_kb(rt: HostRuntime) -> Result<(), Fail> {
         0x43D2, 0x0202, // MOV.B #1, &P1OUT         tick 36, behind 6 ticks of the entry and 5 of RETI
         0x3FFF, // JMP $
     ];
-    let file = image(
-        rt.alloc(),
+    shows(
+        &rt,
         &[
             (0x4400, &code),
             (0x4440, &[0x1300]),
@@ -549,8 +550,112 @@ fn returns_above_64_kb(rt: HostRuntime) -> Result<(), Fail> {
             (0xFFF2, &[0x4440]),
             (0xFFFE, &VECTOR),
         ],
+        "version = 1\nend = 40\n",
+        "9 PIN P1 zzzzzzz0\n36 PIN P1 zzzzzzz1\n40 END\n",
     )?;
-    let text = "0 ON\n2 BOOT 00 00000 00000\n9 PIN P1 zzzzzzz0\n36 PIN P1 zzzzzzz1\n40 END\n";
-    run_under(file.as_slice(), "version = 1\nend = 40\n").gives(&rt, Status::Done, text)?;
+    Ok(())
+}
+
+#[test]
+fn follows_the_edges_of_pins(rt: HostRuntime) -> Result<(), Fail> {
+    let sleeper = [
+        0x4031, 0x2400, // MOV #2400h, SP           2 cycles, tick 3
+        0xC392, 0x0130, // BIC #1, &PM5CTL0         4 cycles, tick 5
+        0x43F2, 0x0205, // MOV.B #-1, &P2DIR        3 cycles, tick 9
+        0x42F2, 0x021A, // MOV.B #8, &P1IE          3 cycles, tick 12
+        0xD032, 0x0018, // BIS #18h, SR             2 cycles, tick 15: GIE and CPUOFF
+        0x3FFF, // JMP $
+    ];
+    let routine = [
+        0x52D2, 0x020E, 0x0203, // ADD.B &P1IV, &P2OUT  6 cycles, ticks 26 and 50: P1.3 is number 8
+        0x1300, // RETI                             5 cycles
+    ];
+    // The second event is a fall, and the last a rise on a pin that isn't enabled.
+    let bench = "version = 1
+end = 70
+event = [
+    { tick = 20, pin = \"P1.3\", level = 1 },
+    { tick = 40, pin = \"P1.3\", level = 0 },
+    { tick = 44, pin = \"P1.3\", level = 1 },
+    { tick = 60, pin = \"P1.0\", level = 1 },
+]
+";
+    shows(
+        &rt,
+        &[
+            (0x4400, &sleeper),
+            (0x4440, &routine),
+            (0xFFDE, &[0x4440]),
+            (0xFFFE, &VECTOR),
+        ],
+        bench,
+        "9 PIN P2 00000000\n26 PIN P2 00001000\n50 PIN P2 00010000\n70 END\n",
+    )?;
+
+    let upper_ports = [
+        0xC392, 0x0130, // BIC #1, &PM5CTL0         4 cycles, tick 3
+        0x43F2, 0x0224, // MOV.B #-1, &P3DIR        3 cycles, tick 7
+        0x43B2, 0x0222, // MOV #-1, &P3OUT          3 cycles, tick 10: OUT of P4 too
+        0x43F2, 0x0225, // MOV.B #-1, &P4DIR        3 cycles, tick 13
+        0x3FFF, // JMP $
+    ];
+    let lines = "7 PIN P3 00000000\n10 PIN P3 11111111\n13 PIN P4 11111111\n20 END\n";
+    shows_code(&rt, &upper_ports, "version = 1\nend = 20\n", lines)?;
+    Ok(())
+}
+
+#[test]
+fn the_watchdog_ends_its_intervals(rt: HostRuntime) -> Result<(), Fail> {
+    // A reset leaves the lock clear, and makes P1 an input and the interval 2^15 again.
+    let hasty = [
+        0x40B2, 0x5A0D, 0x015C, // MOV #5A0Dh, &WDTCTL  4 cycles, tick 3: an interval of 8192 from tick 4 on
+        0xC392, 0x0130, // BIC #1, &PM5CTL0         4 cycles, tick 7
+        0x43D2, 0x0204, // MOV.B #1, &P1DIR         3 cycles, tick 11
+        0x43D2, 0x0202, // MOV.B #1, &P1OUT         tick 14
+        0x3FFF, // JMP $
+    ];
+    let lines = "11 PIN P1 zzzzzzz0
+14 PIN P1 zzzzzzz1
+8195 RST 16
+8195 PIN P1 zzzzzzzz
+8204 PIN P1 zzzzzzz0
+8207 PIN P1 zzzzzzz1
+8300 END
+";
+    shows_code(&rt, &hasty, "version = 1\nend = 8300\n", lines)?;
+    // A wrong password.
+    let wrong = [0x40B2, 0x0000, 0x015C];
+    shows_code(
+        &rt,
+        &wrong,
+        "version = 1\nend = 5\n",
+        "3 RST 18\n4 RST 18\n5 END\n",
+    )?;
+
+    let sleeper = [
+        0x4031, 0x2400, // MOV #2400h, SP           2 cycles, tick 3
+        0xC392, 0x0130, // BIC #1, &PM5CTL0         4 cycles, tick 5
+        0x43D2, 0x0204, // MOV.B #1, &P1DIR         3 cycles, tick 9
+        0x40B2, 0x5A1F, 0x015C, // MOV #5A1Fh, &WDTCTL  4 cycles, tick 12: an interval of 64 from tick 13 on
+        0xD392, 0x0100, // BIS #1, &SFRIE1          4 cycles, tick 16
+        0xD032, 0x0018, // BIS #18h, SR             2 cycles, tick 20: GIE and CPUOFF
+        0x3FFF, // JMP $
+    ];
+    let routine = [
+        0xE3D2, 0x0202, // XOR.B #1, &P1OUT         4 cycles, ticks 82, 146 and 210
+        0x1300, // RETI                             5 cycles
+    ];
+    // The flag is set in the ticks 76, 140 and 204, and an entry takes 6 ticks.
+    shows(
+        &rt,
+        &[
+            (0x4400, &sleeper),
+            (0x4440, &routine),
+            (0xFFF2, &[0x4440]),
+            (0xFFFE, &VECTOR),
+        ],
+        "version = 1\nend = 215\n",
+        "9 PIN P1 zzzzzzz0\n82 PIN P1 zzzzzzz1\n146 PIN P1 zzzzzzz0\n210 PIN P1 zzzzzzz1\n215 END\n",
+    )?;
     Ok(())
 }

@@ -7,10 +7,11 @@ use Rattle.trace_print.specs.declared.items.TraceItem.TheVariants.{On, Boot, Res
 use Rattle.trace_print.specs.Lines.{IsPrintable}
 use Rattle.chip_core.specs.declared.boots.Place.{Place}
 use Rattle.chip_core.specs.declared.boots.Place.TheVariants.{Start, Sig, Done}
-use Rattle.chip_core.specs.declared.pins.Pins.{Pins}
+use Rattle.port_unit.specs.declared.pins.Pins.{Pins}
+use Rattle.port_unit.specs.Pins.{levels_of, port_of}
 use Rattle.stimulus.specs.Stimulus.{Stimulus}
 use Rattle.chip_core.specs.State.{State}
-use Rattle.chip_core.specs.Pins.{pins_of, pin_lines, port_line, port_of, levels_of, same_pins}
+use Rattle.chip_core.specs.Pins.{pins_of, pin_lines, port_line, same_pins}
 use Rattle.chip_core.specs.Tick.{owned, ready, reset, taken_cause}
 use Rattle.chip_core.specs.Lines.{boot_lines, dead_lines, is_restart, lines_of, power_lines, reset_lines, turn_lines}
 
@@ -32,7 +33,7 @@ either false xs ys p q = q
 port_line-IsPrintable : (port : ℕ) (before after : Pins) → 1 ≤ port → port ≤ 4 → All IsPrintable (port_line port before after)
 unfolding port_line
 port_line-IsPrintable port before after low high =
-    either (same_pins (port_of port before) (port_of port after)) [] (Pin port (levels_of (port_of port after)) ∷ []) none (one (Pin port (levels_of (port_of port after))) (low, high))
+    either (same_pins (port_of port before) (port_of port after)) [] (Pin port (levels_of after port) ∷ []) none (one (Pin port (levels_of after port)) (low, high))
 
 boot_lines-IsPrintable : (place : Option Place) → All IsPrintable (boot_lines place)
 boot_lines-IsPrintable (Some Done) = one (Boot 0 0 0) (omega arith, omega arith)
@@ -46,9 +47,14 @@ reset_lines-IsPrintable None = none
 
 pin_lines-IsPrintable : (before after : Pins) → All IsPrintable (pin_lines before after)
 pin_lines-IsPrintable before after =
-    All-append IsPrintable (port_line 1 before after) (port_line 2 before after)
-    (port_line-IsPrintable 1 before after (omega arith) (omega arith))
-    (port_line-IsPrintable 2 before after (omega arith) (omega arith))
+    All-append IsPrintable (port_line 1 before after ++ port_line 2 before after ++ port_line 3 before after) (port_line 4 before after)
+    (All-append IsPrintable (port_line 1 before after ++ port_line 2 before after) (port_line 3 before after)
+    (All-append IsPrintable (port_line 1 before after) (port_line 2 before after) (line 1 (omega arith) (omega arith)) (line 2 (omega arith) (omega arith)))
+    (line 3 (omega arith) (omega arith)))
+    (line 4 (omega arith) (omega arith))
+  where
+    line : (port : ℕ) → 1 ≤ port → port ≤ 4 → All IsPrintable (port_line port before after)
+    line port low high = port_line-IsPrintable port before after low high
 
 turn_lines-IsPrintable : (place : Option Place) (cause : Option ℕ) (before : Pins) (after : State) → All IsPrintable (turn_lines place cause before after)
 turn_lines-IsPrintable place cause before after =

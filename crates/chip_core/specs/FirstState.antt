@@ -6,6 +6,7 @@ use Rattle.chip_words.specs.Memory.{memory_size}
 use Rattle.chip_words.specs.Registers.{no_registers}
 use Rattle.chip_words.specs.Sys.{first_sys}
 use Rattle.chip_words.specs.Ports.{first_ports}
+use Rattle.chip_words.specs.Timers.{first_timers}
 use Rattle.chip_words.specs.Units.{Units}
 use Rattle.chip_words.specs.BusPart.{BusPart}
 use Rattle.elf_image.specs.Image.{Segment, byte_of}
@@ -26,7 +27,7 @@ HoldsFirst image fill old new =
     (at : ℕ) → slice_index new at ≡ (if is_fram at then byte_of image at else if is_sram at then fill else slice_index old at)
 
 abbrev pub first_units : Units
-first_units = record { sys = first_sys; ports = first_ports }
+first_units = record { sys = first_sys; ports = first_ports; timers = first_timers }
 
 abbrev pub first_bus : List Segment → ℕ → BusPart
 first_bus image fill = record {

@@ -1,5 +1,5 @@
--- What one tick does to the chip: power, the stimulus, the owner of the bus, and then the reset.
-use Rattle.std.specs.Prelude.{ℕ, ◌+◌, ◌-◌, ◌==◌, nat_lt, Bool, true, false, if◌then◌else◌, List, [], ◌∷◌, Option, Some, None, slice_index}
+-- What one tick does to the chip: power, the stimulus, the timers, the owner of the bus, and then the reset.
+use Rattle.std.specs.Prelude.{ℕ, ◌+◌, ◌-◌, ◌%◌, ◌==◌, ◌&&◌, not, nat_lt, Bool, true, false, if◌then◌else◌, List, [], ◌∷◌, Option, Some, None, slice_index}
 use Rattle.chip_words.specs.declared.sizes.Size.TheVariants.{Word}
 use Rattle.chip_words.specs.declared.accesses.Agent.TheVariants.{Cpu, Entry, Boot}
 use Rattle.chip_words.specs.Bits.{has_bit}
@@ -8,7 +8,7 @@ use Rattle.chip_words.specs.Registers.{no_registers, with_register}
 use Rattle.chip_words.specs.Ports.{driven}
 use Rattle.chip_words.specs.Causes.{is_of_bor, least_cause}
 use Rattle.chip_words.specs.Interrupts.{accepted}
-use Rattle.chip_words.specs.Units.{units_at_reset, units_entered, units_lines}
+use Rattle.chip_words.specs.Units.{units_at_reset, units_clocked, units_entered, units_lines}
 use Rattle.chip_words.specs.BusPart.{BusPart}
 use Rattle.chip_words.specs.Access.{requested}
 use Rattle.chip_words.specs.Script.{Ran, run}
@@ -46,7 +46,9 @@ powered chip = if chip.powered then chip else record (after_bor 0x02 chip) { pow
 -- an event on a pin sets its external level
 abbrev pub after_event : EventAct → State → State
 after_event (Pin port bit level) chip = record chip {
-  bus = record (chip.bus) { units = record ((chip.bus).units) { ports = driven (((chip.bus).units).ports) port bit level } };
+  bus = record (chip.bus) {
+    units = record ((chip.bus).units) { ports = driven (((chip.bus).units).ports) port bit level (((chip.bus).units).sys).locked };
+  };
 }
 
 -- events one after another
@@ -57,6 +59,24 @@ after_events (event ∷ events) chip = after_events events (after_event event.ac
 -- the events of the tick, in the order of the bench
 unfoldable pub stimulated : Stimulus → State → State
 stimulated bench chip = after_events (on_tick chip.tick bench.events) chip
+
+-- SMCLK has an edge in each tick, unless SCG1, bit 7 of SR, is set
+abbrev pub smclk_edge : State → Bool
+smclk_edge chip = not (has_bit (slice_index chip.registers 2) 7)
+
+-- ACLK has an edge in each 32nd tick, unless OSCOFF, bit 5 of SR, is set
+abbrev pub aclk_edge : State → Bool
+aclk_edge chip = chip.tick % 32 == 0 && not (has_bit (slice_index chip.registers 2) 5)
+
+abbrev pub clocked : Option Place → State → State
+clocked (Some place) chip = chip
+clocked None chip = record chip {
+  bus = record (chip.bus) { units = units_clocked (smclk_edge chip) (aclk_edge chip) ((chip.bus).units) };
+}
+
+-- the timers take the clock edges of the tick, once the boot is done
+unfoldable pub timed : State → State
+timed chip = clocked chip.boot chip
 
 -- what isn't built yet ends the run
 abbrev pub stopped : State → State
@@ -171,7 +191,7 @@ tick_ended bus = record bus { budget = None; writes = 0 }
 
 -- the chip before the owner's turn in a tick
 abbrev pub ready : Stimulus → State → State
-ready bench chip = stimulated bench (powered chip)
+ready bench chip = timed (stimulated bench (powered chip))
 
 -- the chip after its next tick
 unfoldable pub ticked : Stimulus → State → State

@@ -5,17 +5,18 @@ ghost use Rattle.stimulus.specs.Events.{IsPinAct};
 ghost use Rattle.arrayvec.specs.ArrayVec.{array_vec_len};
 ghost use Rattle.chip_words.specs.Causes.{is_of_bor as is_of_bor_cause};
 ghost use Rattle.chip_core.specs.Pins.{pins_of};
-ghost use Rattle.chip_core.specs.Tick.{accepted_by, after_bor, after_event, after_events, after_puc, at_reset_vector, boot_turn, entered, free_turn, instructed, is_off as is_off_state, owned, powered, processor_turn, reset as reset_of, stimulated, taken_cause, takes_interrupts as takes_interrupts_state, ticked};
+ghost use Rattle.chip_core.specs.Tick.{accepted_by, aclk_edge, after_bor, after_event, after_events, after_puc, at_reset_vector, boot_turn, entered, free_turn, instructed, is_off as is_off_state, owned, powered, processor_turn, reset as reset_of, smclk_edge, stimulated, taken_cause, takes_interrupts as takes_interrupts_state, ticked, timed};
 ghost use Rattle.chip_core.specs.Lines.{boot_lines, dead_lines, lines_of, power_lines, reset_lines, turn_lines};
 
 use crate::boots::{self, BootStep, Place};
 use crate::flat_bus::Fabric;
-use crate::pins::Pins;
+use crate::pin_lines::tell_changes;
 use crate::{Lines, entries};
 use chip_words::{NoMemory, Regs};
 use cpux_extended::{Outcome, step};
 use elf_image::Image;
 use interrupt_reset::best;
+use port_unit::Pins;
 use std::alloc::Global;
 use std::marker::Model;
 use stimulus::{Bench, EventAct};
@@ -74,19 +75,15 @@ impl Chip {
         })
     }
 
-    /// The pins, as the outside sees them.
+    /// The pins, as the outside sees them: without power all are open.
     #[tactic(auto, unfolding(crate::specs::Pins::pins_of))]
     fn pins(&self) -> Pins
         ensures { result ≡ pins_of self.now }
     {
-        let driven = if self.powered {
-            self.fabric.outputs()
+        if self.powered {
+            self.fabric.pins()
         } else {
-            0
-        };
-        Pins {
-            driven,
-            high: self.fabric.out() & driven,
+            Pins { driven: 0, high: 0 }
         }
     }
 
@@ -106,10 +103,11 @@ impl Chip {
         let pins = self.pins();
         self.power(lines);
         self.stimulate(bench);
+        self.time();
         let place = self.boot;
         self.own();
         let cause = self.reset();
-        self.tell(place, cause, &pins, lines);
+        self.tell(place, cause, pins, lines);
         self.fabric.end_tick();
         self.tick = next;
     }
@@ -123,9 +121,9 @@ impl Chip {
 
     /// Adds what the tick shows behind its stimulus, from the place of the boot, the cause that was taken,
     /// and the pins before it.
-    fn tell(&self, place: Option<Place>, cause: Option<u8>, before: &Pins, lines: &mut Lines)
+    fn tell(&self, place: Option<Place>, cause: Option<u8>, before: Pins, lines: &mut Lines)
         requires { array_vec_len lines.old ≤ 10 }
-        ensures { lines.new.items ≡ lines.old.items ++ turn_lines place cause before.now self.now }
+        ensures { lines.new.items ≡ lines.old.items ++ turn_lines place cause before self.now }
     {
         if self.is_stopped() {
             lines.push(TraceItem::Stop);
@@ -133,7 +131,7 @@ impl Chip {
             tell_boot(place, lines);
             tell_reset(cause, lines);
             self.tell_dead(place, cause, lines);
-            before.tell_changes(&self.pins(), lines);
+            tell_changes(before, self.pins(), lines);
         }
     }
 
@@ -220,6 +218,32 @@ impl Chip {
         match act {
             EventAct::Pin(port, bit, level) => self.fabric.drive(port, bit, level),
         }
+    }
+
+    /// The timers take the clock edges of the tick, once the boot is done.
+    #[tactic(auto, unfolding(crate::specs::Tick::timed))]
+    fn time(&mut self)
+        ensures { self.new ≡ timed self.old }
+    {
+        if self.boot.is_none() {
+            let smclk = self.has_smclk();
+            let aclk = self.has_aclk();
+            self.fabric.clock(smclk, aclk);
+        }
+    }
+
+    /// Says whether SMCLK has an edge in the tick: SCG1 of SR is clear.
+    fn has_smclk(&self) -> bool
+        ensures { result ≡ smclk_edge self.now }
+    {
+        (self.regs.get(2) >> 7) & 1 == 0
+    }
+
+    /// Says whether ACLK has an edge in the tick: it is a 32nd one, and OSCOFF of SR is clear.
+    fn has_aclk(&self) -> bool
+        ensures { result ≡ aclk_edge self.now }
+    {
+        self.tick % 32 == 0 && (self.regs.get(2) >> 5) & 1 == 0
     }
 
     /// The turn of the bus owner: the boot until it is done, and then the processor.

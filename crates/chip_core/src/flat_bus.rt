@@ -5,15 +5,15 @@ ghost use Rattle.chip_words.specs.BusPart.{HasRoom};
 ghost use Rattle.chip_words.specs.Map.{region_at, is_sram, aligned as aligned_at};
 ghost use Rattle.chip_words.specs.Bits.{part_of};
 ghost use Rattle.chip_words.specs.Causes.{least_cause};
-ghost use Rattle.chip_words.specs.Ports.{driven, ports_written};
-ghost use Rattle.chip_words.specs.Sys.{sys_cause, sys_touched, sys_written};
+ghost use Rattle.chip_words.specs.Ports.{driven, is_of_ports as is_of_ports_at};
+ghost use Rattle.port_unit.specs.Pins.{pins_of};
+ghost use Rattle.chip_words.specs.Timers.{is_of_timers as is_of_timers_at};
 ghost use Rattle.chip_words.specs.Memory.{loaded, memory_size as memory_size_of};
 ghost use Rattle.chip_core.specs.FirstState.{HoldsFirst, first_bus, first_memory};
 ghost use Rattle.chip_core.specs.Kinds.{is_write};
-ghost use Rattle.chip_words.specs.Units.{is_built as is_built_at, periph, units_at_reset, units_entered, units_lines, word_of};
+ghost use Rattle.chip_words.specs.Units.{is_built as is_built_at, periph, units_at_reset, units_cause, units_clocked, units_entered, units_lines, units_touched, units_written, word_of};
 ghost use Rattle.chip_words.specs.Access.{blank as blank_of, entry_of, granted, is_beyond_boot as is_beyond_boot_of, is_low_start as is_low_start_of, is_over, judged, made, numbered, ones as ones_of, present, replied, requested};
 
-use crate::port_pins::Ports;
 use arrayvec::ArrayVec;
 use chip_words::{
     Access, Agent, Bus, Kind, NoMemory, Size, load, memory_size, part, store, word_with_part,
@@ -21,14 +21,18 @@ use chip_words::{
 use elf_image::Image;
 use interrupt_reset::Sys;
 use memory_map::{MAIN_END, Region, SRAM_END, SRAM_START, aligned, is_fram, region_of};
+use port_unit::{Pins, Ports};
 use std::alloc::Global;
+use timer_unit::Timers;
 
 /// The cause of the PUC for an instruction that begins in the peripherals.
 const LOW_START: u8 = 0x1E;
+/// The cause of the PUC when the watchdog ends an interval.
+const WATCHDOG_INTERVAL: u8 = 0x16;
 /// The vector of the watchdog as an interval timer (SLAS704, interrupt vector table).
 const WATCHDOG_VECTOR: u32 = 0xFFF2;
-/// Its row of the interrupt lines.
-const WATCHDOG_ROW: u8 = 2;
+/// Its number among the interrupt lines.
+const WATCHDOG_LINE: u8 = 2;
 
 /// The bus part of the chip over one flat memory.
 #[derive(Drop)]
@@ -36,6 +40,7 @@ pub struct Fabric {
     memory: Vec<u8>,
     sys: Sys,
     ports: Ports,
+    timers: Timers,
     fill: u8,
     budget: Option<u32>,
     writes: u32,
@@ -161,6 +166,7 @@ impl Fabric {
             memory,
             sys: Sys::new(),
             ports: Ports::new(),
+            timers: Timers::new(),
             fill,
             budget: None,
             writes: 0,
@@ -175,7 +181,8 @@ impl Fabric {
     {
         self.sys.reset(bor);
         self.sys.taken(cause);
-        self.ports.reset();
+        self.ports.reset(bor);
+        self.timers.reset(bor);
     }
 
     /// Requests a reset with a cause.
@@ -193,11 +200,11 @@ impl Fabric {
         self.sys.pending()
     }
 
-    /// The interrupt lines, of which bit i is row i.
+    /// The interrupt lines, of which bit i is line i.
     pub fn lines(&self) -> u16
         ensures { result ≡ units_lines (bus_part_of self.now).units }
     {
-        self.sys.lines()
+        self.sys.lines() | self.ports.lines()
     }
 
     /// An interrupt was entered: the flag of its line is cleared, where the line has a single one.
@@ -205,16 +212,17 @@ impl Fabric {
         ensures { bus_part_of self.new ≡ record (bus_part_of self.old) { units = units_entered vector (bus_part_of self.old).units } }
     {
         if vector == WATCHDOG_VECTOR {
-            self.sys.entered(WATCHDOG_ROW);
+            self.sys.entered(WATCHDOG_LINE);
         }
     }
 
     /// Sets the external level of pin `bit`, 0 to 7, of a port, 1 to 4.
     pub fn drive(&mut self, port: u8, bit: u8, level: bool)
-        requires { bit < 8 }
-        ensures { bus_part_of self.new ≡ record (bus_part_of self.old) { units = record ((bus_part_of self.old).units) { ports = driven ((bus_part_of self.old).units.ports) port bit level } } }
+        requires port { (1 ≤ port) × (port ≤ 4) }
+        requires bit { bit < 8 }
+        ensures { bus_part_of self.new ≡ record (bus_part_of self.old) { units = record ((bus_part_of self.old).units) { ports = driven ((bus_part_of self.old).units.ports) port bit level ((bus_part_of self.old).units.sys).locked } } }
     {
-        self.ports.drive(port, bit, level);
+        self.ports.drive(port, bit, level, self.sys.locked());
     }
 
     /// Ends a step: its accesses are no longer listed.
@@ -254,51 +262,59 @@ impl Fabric {
         load(self.memory.as_slice(), 0xFFFE, Size::Word)
     }
 
-    /// OUT of P1 and P2.
-    pub fn out(&self) -> u16
-        ensures { result ≡ (((bus_part_of self.now).units.ports).first).out }
+    /// The clock edges of a tick, each of which is there or isn't.
+    pub fn clock(&mut self, smclk: bool, aclk: bool)
+        ensures { bus_part_of self.new ≡ record (bus_part_of self.old) { units = units_clocked smclk aclk (bus_part_of self.old).units } }
     {
-        self.ports.out()
-    }
-
-    /// The pins of P1 and P2 that are outputs and aren't locked.
-    pub fn outputs(&self) -> u16
-        ensures { result ≡ (if ((bus_part_of self.now).units.sys).locked then 0 else (((bus_part_of self.now).units.ports).first).direction) }
-    {
-        if self.sys.locked() {
-            0
-        } else {
-            self.ports.direction()
+        let fired = self.timers.tick(smclk, aclk);
+        if fired.interval {
+            self.sys.interval();
+        }
+        if fired.reset {
+            self.sys.request(WATCHDOG_INTERVAL);
         }
     }
 
+    /// The pins, as the outside sees them while power is on.
+    pub fn pins(&self) -> Pins
+        ensures { result ≡ pins_of ((bus_part_of self.now).units.ports) ((bus_part_of self.now).units.sys).locked }
+    {
+        self.ports.pins(self.sys.locked())
+    }
+
     /// A read of a peripheral register.
+    #[tactic(auto, unfolding(chip_words::specs::Units::word_of, chip_words::specs::Units::units_touched))]
     fn take(&mut self, at: u32, size: Size) -> u32
         requires { IsByteOrWord size }
         ensures small { result < span size }
         ensures answer { result ≡ part_of size at (word_of (bus_part_of self.old).units (at - at % 2)) }
-        ensures chip { bus_part_of self.new ≡ record (bus_part_of self.old) { units = record ((bus_part_of self.old).units) { sys = sys_touched ((bus_part_of self.old).units.sys) at } } }
+        ensures chip { bus_part_of self.new ≡ record (bus_part_of self.old) { units = units_touched (bus_part_of self.old).units at } }
     {
-        if at < 0x0200 {
-            self.sys.read(at, size)
+        if is_of_ports(at) {
+            self.ports.read(at, size, self.sys.locked())
+        } else if is_of_timers(at) {
+            self.timers.read(at, size)
         } else {
-            part(size, at, self.ports.word(at & !1, self.sys.locked()))
+            self.sys.read(at, size)
         }
     }
 
     /// A write of a peripheral register, and the cause of the reset that it asks for.
+    #[tactic(auto, unfolding(chip_words::specs::Units::units_written, chip_words::specs::Units::units_cause))]
     fn give(&mut self, at: u32, size: Size, value: u32) -> Option<u8>
         requires width { IsByteOrWord size }
         requires fits { value < span size }
-        ensures cause { result ≡ sys_cause ((bus_part_of self.old).units.sys) at size value }
+        ensures cause { result ≡ units_cause (bus_part_of self.old).units at size value }
         ensures number { IfSome result (λ cause. cause < 65) }
-        ensures chip { bus_part_of self.new ≡ record (bus_part_of self.old) { units = record { sys = sys_written ((bus_part_of self.old).units.sys) at size value; ports = ports_written ((bus_part_of self.old).units.ports) ((bus_part_of self.old).units.sys).locked at size value } } }
+        ensures chip { bus_part_of self.new ≡ record (bus_part_of self.old) { units = units_written (bus_part_of self.old).units at size value } }
     {
-        let even = at & !1;
-        let word = self.ports.word(even, self.sys.locked());
-        self.ports
-            .set_word(even, word_with_part(size, at, word, value as u16));
-        self.sys.write(at, size, value)
+        if is_of_ports(at) {
+            self.ports.write(at, size, value)
+        } else if is_of_timers(at) {
+            self.timers.write(at, size, value)
+        } else {
+            self.sys.write(at, size, value)
+        }
     }
 
     /// An access to a peripheral register.
@@ -452,14 +468,29 @@ impl Fabric {
     }
 }
 
+/// Says whether an address is one of the ports'.
+fn is_of_ports(at: u32) -> bool
+    ensures { result ≡ is_of_ports_at at }
+{
+    0x0200 <= at && at < 0x0240
+}
+
+/// Says whether an address is one of the timers'.
+fn is_of_timers(at: u32) -> bool
+    ensures { result ≡ is_of_timers_at at }
+{
+    at & !1 == 0x015C
+}
+
 /// Says whether the register at an even address is built.
+#[tactic(auto, unfolding(chip_words::specs::Units::is_built))]
 fn is_built(at: u32) -> bool
     ensures { result ≡ is_built_at at }
 {
-    matches!(
-        at,
-        0x0100 | 0x0102 | 0x0120 | 0x0130 | 0x0180 | 0x019C | 0x019E | 0x0200 | 0x0202 | 0x0204
-    )
+    match at {
+        0x0100 | 0x0102 | 0x0120 | 0x0130 | 0x0160..=0x016D | 0x0180 | 0x019C | 0x019E => true,
+        _ => is_of_timers(at) || is_of_ports(at),
+    }
 }
 
 /// What an access answers where nothing can be written.

@@ -8,8 +8,7 @@ mod boots;
 mod chips;
 mod entries;
 mod flat_bus;
-mod pins;
-mod port_pins;
+mod pin_lines;
 
 pub use chips::Chip;
 

@@ -10,6 +10,8 @@ pub mod Causes
 pub mod Sys
 pub mod Interrupts
 pub mod Ports
+pub mod Watchdog
+pub mod Timers
 pub mod Units
 pub mod Right
 pub mod BusPart

@@ -5,6 +5,7 @@
 mod accesses;
 mod buses;
 mod decimals;
+mod fired;
 mod memory;
 mod no_memory;
 mod parts;
@@ -17,6 +18,7 @@ mod tests;
 pub use accesses::{Access, Agent, Kind};
 pub use buses::Bus;
 pub use decimals::bcd_add;
+pub use fired::Fired;
 pub use memory::{load, memory_size, store};
 pub use no_memory::NoMemory;
 pub use parts::{part, word_with_part};

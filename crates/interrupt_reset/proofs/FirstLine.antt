@@ -1,4 +1,4 @@
--- Where vectors fall from row to row, the first line that stands has the greatest of the standing vectors.
+-- Where vectors fall from line to line, the first line that stands has the greatest of the standing vectors.
 use Rattle.std.proofs.Common.{◌≡◌, ℕ, zero, suc, ◌+◌, ◌/◌, ◌%◌, ◌^◌, ◌<◌, ◌≤◌, Bool, true, ◌&&◌, ◌==◌, List, [], ◌∷◌, Option, Some, None, IfSome, length, refl, sym, arith}
 use Rattle.std.specs.Prelude.{nat_lt, nat_le, is_some, slice_get, slice_index_or}
 use Rattle.std.specs.List.{list_all}
@@ -25,31 +25,31 @@ below_more n bound (Some m) h k = omega arith
 below_more n bound None h k = k
 
 -- the standing vectors are below the bound
-pub greatest-standing-below : (bound lines row : ℕ) (vectors : List ℕ) → falls_below bound vectors ≡ true → IfSome (greatest (standing lines row vectors)) (λ m. m < bound)
-greatest-standing-below bound lines row [] h = tt
-greatest-standing-below bound lines row (v ∷ vectors) h = by_digit (greatest-standing-below v lines (row + 1) vectors (grind (arith, nat_tests))) (lines / 2 ^ row % 2) refl
+pub greatest-standing-below : (bound lines place : ℕ) (vectors : List ℕ) → falls_below bound vectors ≡ true → IfSome (greatest (standing lines place vectors)) (λ m. m < bound)
+greatest-standing-below bound lines place [] h = tt
+greatest-standing-below bound lines place (v ∷ vectors) h = by_digit (greatest-standing-below v lines (place + 1) vectors (grind (arith, nat_tests))) (lines / 2 ^ place % 2) refl
   where
     below : v < bound
     below = grind (arith, nat_tests)
 
-    by_digit : IfSome (greatest (standing lines (row + 1) vectors)) (λ m. m < v) → (d : ℕ) → lines / 2 ^ row % 2 ≡ d → IfSome (greatest (standing lines row (v ∷ vectors))) (λ m. m < bound)
-    by_digit rest zero e = rw e (below_more v bound (greatest (standing lines (row + 1) vectors)) below rest)
-    by_digit rest (suc zero) e = rw (e, greater_with-below v (greatest (standing lines (row + 1) vectors)) rest) below
+    by_digit : IfSome (greatest (standing lines (place + 1) vectors)) (λ m. m < v) → (d : ℕ) → lines / 2 ^ place % 2 ≡ d → IfSome (greatest (standing lines place (v ∷ vectors))) (λ m. m < bound)
+    by_digit rest zero e = rw e (below_more v bound (greatest (standing lines (place + 1) vectors)) below rest)
+    by_digit rest (suc zero) e = rw (e, greater_with-below v (greatest (standing lines (place + 1) vectors)) rest) below
     by_digit rest (suc (suc d)) e = absurd (omega arith)
 
--- the first line that stands from a row on is the first digit 1 there
-greatest-standing_from : (bound lines row width : ℕ) (vectors : List ℕ) → falls_below bound vectors ≡ true → length vectors ≤ width → greatest (standing lines row vectors) ≡ slice_get vectors (count_trailing_zeros width (lines / 2 ^ row))
+-- the first line that stands from a place on is the first digit 1 there
+greatest-standing_from : (bound lines place width : ℕ) (vectors : List ℕ) → falls_below bound vectors ≡ true → length vectors ≤ width → greatest (standing lines place vectors) ≡ slice_get vectors (count_trailing_zeros width (lines / 2 ^ place))
 unfolding count_trailing_zeros
-greatest-standing_from bound lines row width [] h within = refl
-greatest-standing_from bound lines row zero (v ∷ vectors) h within = absurd (omega arith)
-greatest-standing_from bound lines row (suc width) (v ∷ vectors) h within = by_digit (greatest-standing_from v lines (row + 1) width vectors falls (omega arith)) (lines / 2 ^ row % 2) refl
+greatest-standing_from bound lines place width [] h within = refl
+greatest-standing_from bound lines place zero (v ∷ vectors) h within = absurd (omega arith)
+greatest-standing_from bound lines place (suc width) (v ∷ vectors) h within = by_digit (greatest-standing_from v lines (place + 1) width vectors falls (omega arith)) (lines / 2 ^ place % 2) refl
   where
     falls : falls_below v vectors ≡ true
     falls = grind (arith, nat_tests)
 
-    by_digit : greatest (standing lines (row + 1) vectors) ≡ slice_get vectors (count_trailing_zeros width (lines / 2 ^ (row + 1))) → (d : ℕ) → lines / 2 ^ row % 2 ≡ d → greatest (standing lines row (v ∷ vectors)) ≡ slice_get (v ∷ vectors) (count_trailing_zeros (suc width) (lines / 2 ^ row))
-    by_digit rest zero e = rw (e, shr-shr lines row 1) rest
-    by_digit rest (suc zero) e = rw (e, greater_with-below v (greatest (standing lines (row + 1) vectors)) (greatest-standing-below v lines (row + 1) vectors falls)) refl
+    by_digit : greatest (standing lines (place + 1) vectors) ≡ slice_get vectors (count_trailing_zeros width (lines / 2 ^ (place + 1))) → (d : ℕ) → lines / 2 ^ place % 2 ≡ d → greatest (standing lines place (v ∷ vectors)) ≡ slice_get (v ∷ vectors) (count_trailing_zeros (suc width) (lines / 2 ^ place))
+    by_digit rest zero e = rw (e, shr-shr lines place 1) rest
+    by_digit rest (suc zero) e = rw (e, greater_with-below v (greatest (standing lines (place + 1) vectors)) (greatest-standing-below v lines (place + 1) vectors falls)) refl
     by_digit rest (suc (suc d)) e = absurd (omega arith)
 
 -- the first line that stands is the first digit 1 of the lines

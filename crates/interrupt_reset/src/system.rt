@@ -1,8 +1,8 @@
-ghost use Rattle.std.specs.Prelude.{◌≡◌, ◌<◌, ◌-◌, ◌%◌, Option, Some, None, IfSome};
+ghost use Rattle.std.specs.Prelude.{◌≡◌, ◌<◌, ◌-◌, ◌%◌, Option, Some, None, IfSome, IsTrue};
 ghost use Rattle.chip_words.specs.Bits.{part_of};
 ghost use Rattle.chip_words.specs.Causes.{least_cause};
 ghost use Rattle.chip_words.specs.Sizes.{IsByteOrWord, span};
-ghost use Rattle.chip_words.specs.Sys.{Sys as SysRegisters, first_sys, sys_at_reset, sys_requested, sys_taken, sys_word, sys_touched, sys_written, software_cause, sys_cause, sys_lines, sys_entered};
+ghost use Rattle.chip_words.specs.Sys.{Sys as SysRegisters, clock_number as clock_number_of, first_sys, is_of_clocks, sys_at_reset, sys_requested, sys_taken, sys_word, sys_touched, sys_written, software_cause, sys_cause, sys_lines, sys_at_interval, sys_entered};
 
 use crate::causes::{CAUSES, POWER_PASSWORD, SOFTWARE_BOR, SOFTWARE_POR, no_requests};
 use chip_words::{Size, part, word_with_part};
@@ -17,6 +17,10 @@ const PMMCTL0: u32 = 0x0120;
 
 const PM5CTL0: u32 = 0x0130;
 
+const CSCTL0: u32 = 0x0160;
+
+const CSCTL6: u32 = 0x016C;
+
 const SYSCTL: u32 = 0x0180;
 
 const SYSRSTIV: u32 = 0x019E;
@@ -24,8 +28,8 @@ const SYSRSTIV: u32 = 0x019E;
 /// WDTIE in SFRIE1, and WDTIFG in SFRIFG1.
 const WATCHDOG: u16 = 1;
 
-/// The row of the interrupt line that the watchdog has as an interval timer.
-const WATCHDOG_ROW: u32 = 2;
+/// The number of the interrupt line that the watchdog has as an interval timer.
+const WATCHDOG_LINE: u32 = 2;
 
 /// The upper byte of a word that is written to PMMCTL0.
 const PASSWORD: u16 = 0xA5;
@@ -41,6 +45,7 @@ pub struct Sys {
     flags: u16,
     is_open: bool,
     locked: bool,
+    clocks: [u16; 7],
     control: u16,
     cause: u8,
     requested: [bool; CAUSES],
@@ -56,6 +61,7 @@ impl Model for Sys {
       flags = s.flags;
       is_open = s.is_open;
       locked = s.locked;
+      clocks = s.clocks;
       control = s.control;
       cause = s.cause;
       requested = s.requested;
@@ -74,6 +80,7 @@ impl Sys {
             flags: 0,
             is_open: false,
             locked: true,
+            clocks: [0; 7],
             control: 0,
             cause: 0,
             requested: no_requests(),
@@ -89,6 +96,7 @@ impl Sys {
         self.flags = 0;
         self.is_open = false;
         self.locked = self.locked || bor;
+        self.clocks = [0; 7];
         self.control = 0;
         self.cause = 0;
     }
@@ -131,6 +139,7 @@ impl Sys {
             SFRIFG1 => self.flags,
             PMMCTL0 => PASSWORD_READS,
             PM5CTL0 => u16::from(self.locked),
+            CSCTL0..=CSCTL6 => self.clocks[clock_number(at)],
             SYSCTL => self.control,
             SYSRSTIV => u16::from(mem::take(&mut self.cause)),
             _ => 0,
@@ -153,6 +162,10 @@ impl Sys {
             PMMCTL0 => return self.write_power(at, size, value),
             PM5CTL0 => self.locked = word_with_part(size, at, u16::from(self.locked), value) & 1
                 == 1,
+            CSCTL0..=CSCTL6 => {
+                let clock = &mut self.clocks[clock_number(at)];
+                *clock = word_with_part(size, at, *clock, value);
+            }
             SYSCTL => self.control = word_with_part(size, at, self.control, value),
             SYSRSTIV => self.cause = 0,
             _ => {}
@@ -191,20 +204,27 @@ impl Sys {
         }
     }
 
-    /// The interrupt lines of this unit that stand: bit i is row i.
+    /// The interrupt lines of this unit that stand: bit i is line i.
     pub fn lines(&self) -> u16
         ensures { result ≡ sys_lines self.now }
     {
         if self.enables & WATCHDOG == WATCHDOG && self.flags & WATCHDOG == WATCHDOG {
-            1 << WATCHDOG_ROW
+            1 << WATCHDOG_LINE
         } else {
             0
         }
     }
 
-    /// Clears the flag that an interrupt entry for a row of this unit clears.
-    pub fn entered(&mut self, row: u8)
-        requires { row ≡ 2 }
+    /// The watchdog ended an interval: sets WDTIFG.
+    pub fn interval(&mut self)
+        ensures { self.new ≡ sys_at_interval self.old }
+    {
+        self.flags |= WATCHDOG;
+    }
+
+    /// Clears the flag that an interrupt entry for a line of this unit clears.
+    pub fn entered(&mut self, line: u8)
+        requires { line ≡ 2 }
         ensures { self.new ≡ sys_entered self.old }
     {
         self.flags &= !WATCHDOG;
@@ -216,6 +236,15 @@ impl Sys {
     {
         self.locked
     }
+}
+
+/// Which of the clock system's registers an address is of.
+fn clock_number(at: u32) -> usize
+    requires { IsTrue (is_of_clocks at) }
+    ensures number { result ≡ clock_number_of at }
+    ensures within { result < 7 }
+{
+    ((at - CSCTL0) / 2) as usize
 }
 
 /// The cause that the lower byte of PMMCTL0 requests: SWBOR is bit 2, and SWPOR is bit 3.

@@ -85,6 +85,9 @@ fn the_watchdog_has_a_line(rt: HostRuntime) {
     sys.entered(2);
     assert_eq!(rt; sys.lines(), 0);
     assert_eq!(rt; sys.read(0x0102, Size::Word), 0xFF00);
+    sys.interval();
+    assert_eq!(rt; sys.lines(), 0x0004);
+    assert_eq!(rt; sys.read(0x0102, Size::Word), 0xFF01);
 }
 
 #[test]
@@ -133,7 +136,7 @@ fn the_greatest_vector_is_best(rt: HostRuntime) {
         (0x1000, true, false, Some(0xFFD0)),
         (0x1FFF, true, false, Some(0xFFF6)),
         (0x1E00, true, false, Some(0xFFDE)),
-        // There are no rows 13 to 15.
+        // There are no lines 13 to 15.
         (0xE000, true, false, None),
         (0x1FFF, false, false, None),
         (0x0001, false, true, Some(0xFFFC)),
@@ -141,4 +144,22 @@ fn the_greatest_vector_is_best(rt: HostRuntime) {
     ] {
         assert_eq!(rt; best(lines, gie, nmi), vector);
     }
+}
+
+#[test]
+fn the_clock_system_is_stored(rt: HostRuntime) {
+    let mut sys = Sys::new();
+    for (at, word) in [(0x0160, 0xA500_u16), (0x0162, 0x000D), (0x016C, 0x1234)] {
+        assert_eq!(rt; sys.read(at, Size::Word), 0);
+        assert_eq!(rt; sys.write(at, Size::Word, u32::from(word)), None);
+    }
+    sys.write(0x0161, Size::Byte, 0x5A);
+    assert_eq!(rt; sys.read(0x0160, Size::Word), 0x5A00);
+    assert_eq!(rt; sys.read(0x0162, Size::Byte), 0x0D);
+    assert_eq!(rt; sys.read(0x016D, Size::Byte), 0x12);
+    // There is no register at 016Eh.
+    sys.write(0x016E, Size::Word, 0xFFFF);
+    assert_eq!(rt; sys.read(0x016E, Size::Word), 0);
+    sys.reset(false);
+    assert_eq!(rt; sys.read(0x016C, Size::Word), 0);
 }

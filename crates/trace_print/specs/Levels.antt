@@ -1,7 +1,7 @@
 -- How a pin's level is written.
 use Rattle.std.specs.Prelude.{ℕ, List, map, reverse}
-use Rattle.trace_print.specs.declared.levels.Level.{Level}
-use Rattle.trace_print.specs.declared.levels.Level.TheVariants.{Low, High, Open}
+use Rattle.port_unit.specs.declared.levels.Level.{Level}
+use Rattle.port_unit.specs.declared.levels.Level.TheVariants.{Low, High, Open}
 
 -- the characters `0`, `1` and `z`
 abbrev pub letter_of : Level → ℕ

@@ -1,4 +1,4 @@
-use crate::levels::Level;
+use port_unit::Level;
 
 /// What one line of a trace tells.
 #[derive(Clone, Copy, Debug, Default, PartialEq, Eq)]

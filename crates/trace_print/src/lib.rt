@@ -9,5 +9,4 @@ mod pieces;
 mod tests;
 
 pub use items::TraceItem;
-pub use levels::Level;
 pub use lines::trace_line;

@@ -4,9 +4,10 @@ ghost use Rattle.trace_print.specs.Levels.{letters_of};
 ghost use Rattle.trace_print.specs.Lines.{IsPrintable, line_of, text_of};
 
 use crate::items::TraceItem;
-use crate::levels::Level;
+use crate::levels::letter;
 use crate::pieces::{push_decimal, push_hex, push_text};
 use arrayvec::ArrayVec;
+use port_unit::Level;
 
 /// A line of a trace, with its line feed.
 pub(crate) type Line = ArrayVec<u8, 160>;
@@ -88,6 +89,6 @@ fn push_levels(line: &mut Line, levels: &[Level; 8])
     ensures len { array_vec_len line.new ≡ array_vec_len line.old + 8 }
 {
     for level in levels.iter().rev() {
-        line.push(level.letter());
+        line.push(letter(*level));
     }
 }

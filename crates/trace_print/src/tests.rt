@@ -1,7 +1,8 @@
 ghost use Rattle.trace_print.specs.Lines.{IsPrintable};
 
-use crate::{Level, TraceItem, trace_line};
+use crate::{TraceItem, trace_line};
 use arrayvec::ArrayVec;
+use port_unit::Level;
 use std::process::Abort;
 
 /// Compares the line of an item with its text.

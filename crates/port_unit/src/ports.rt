@@ -1,0 +1,172 @@
+ghost use Rattle.std.specs.Prelude.{◌≡◌, ◌-◌, ◌<◌, ◌≤◌, ◌%◌, ◌^◌, None};
+ghost use Rattle.chip_words.specs.Bits.{part_of};
+ghost use Rattle.chip_words.specs.Ports.{Ports as PortRegisters, driven, first_place, first_ports, line_of_pin, ports_at_reset, ports_lines, ports_touched, ports_word, ports_written};
+ghost use Rattle.chip_words.specs.Sizes.{IsByteOrWord, span};
+ghost use Rattle.port_unit.specs.Pins.{both, levels_of, pins_of};
+
+use crate::levels::Level;
+use crate::pairs::{EVEN_PORT, ODD_PORT, PortPair};
+use crate::pins::Pins;
+use chip_words::{Size, part};
+use std::marker::Model;
+
+/// Where the registers of P1 and P2 begin.
+const FIRST_PAIR: u32 = 0x0200;
+
+/// Where the registers of P3 and P4 begin.
+const SECOND_PAIR: u32 = 0x0220;
+
+// The numbers of the interrupt lines.
+
+const P1_LINE: u32 = 9;
+
+const P2_LINE: u32 = 10;
+
+const P3_LINE: u32 = 11;
+
+const P4_LINE: u32 = 12;
+
+/// The registers of the ports P1 to P4, and the external levels of their pins (SLAU367, digital I/O).
+#[derive(Debug, Drop)]
+pub struct Ports {
+    first: PortPair,
+    second: PortPair,
+}
+
+impl Model for Ports {
+    ghost Value = { PortRegisters };
+
+    ghost view = { λ p. record { first = p.first; second = p.second } };
+}
+
+impl Ports {
+    /// All registers and all external levels 0.
+    pub fn new() -> Ports
+        ensures { result ≡ first_ports }
+    {
+        Ports {
+            first: PortPair::new(),
+            second: PortPair::new(),
+        }
+    }
+
+    /// The unit's part of a reset: a BOR and a PUC do the same here.
+    pub fn reset(&mut self, _bor: bool)
+        ensures { self.new ≡ ports_at_reset self.old }
+    {
+        self.first.reset();
+        self.second.reset();
+    }
+
+    /// Reads at an address of this unit; `locked` is LOCKLPM5.
+    #[tactic(auto, unfolding(chip_words::specs::Ports::ports_word, chip_words::specs::Ports::ports_touched))]
+    pub fn read(&mut self, at: u32, size: Size, locked: bool) -> u32
+        requires place { (0x0200 ≤ at) × (at < 0x0240) }
+        requires width { IsByteOrWord size }
+        ensures value { result ≡ part_of size at (ports_word self.old locked (at - at % 2)) }
+        ensures small { result < span size }
+        ensures ports { self.new ≡ ports_touched self.old at }
+    {
+        let even = at - at % 2;
+        let word = if at < SECOND_PAIR {
+            self.first.read(even - FIRST_PAIR, locked)
+        } else {
+            self.second.read(even - SECOND_PAIR, locked)
+        };
+        part(size, at, word)
+    }
+
+    /// Writes at an address of this unit, which never requests a reset.
+    #[tactic(auto, unfolding(chip_words::specs::Ports::ports_written))]
+    pub fn write(&mut self, at: u32, size: Size, value: u32) -> Option<u8>
+        requires place { (0x0200 ≤ at) × (at < 0x0240) }
+        requires width { IsByteOrWord size }
+        requires fits { value < span size }
+        ensures ports { self.new ≡ ports_written self.old at size value }
+        ensures cause { result ≡ None }
+    {
+        let value = value as u16;
+        if at < SECOND_PAIR {
+            self.first.write(at - FIRST_PAIR, size, value);
+        } else {
+            self.second.write(at - SECOND_PAIR, size, value);
+        }
+        None
+    }
+
+    /// Sets the external level of pin `bit`, 0 to 7, of a port, 1 to 4; `locked` is LOCKLPM5.
+    #[tactic(auto, unfolding(chip_words::specs::Ports::driven))]
+    pub fn drive(&mut self, port: u8, bit: u8, level: bool, locked: bool)
+        requires port { (1 ≤ port) × (port ≤ 4) }
+        requires bit { bit < 8 }
+        ensures { self.new ≡ driven self.old port bit level locked }
+    {
+        let place = start_of(port) + bit;
+        if port <= 2 {
+            self.first.drive(place, level, locked);
+        } else {
+            self.second.drive(place, level, locked);
+        }
+    }
+
+    /// The pins of all ports, as the outside sees them while power is on; `locked` is LOCKLPM5.
+    #[tactic(auto, unfolding(crate::specs::Pins::pins_of))]
+    pub fn pins(&self, locked: bool) -> Pins
+        ensures { result ≡ pins_of self.now locked }
+    {
+        let driven = if locked {
+            0
+        } else {
+            joined(self.first.direction(), self.second.direction())
+        };
+        Pins {
+            driven,
+            high: joined(self.first.out(), self.second.out()) & driven,
+        }
+    }
+
+    /// The levels of a port, 1 to 4, entry i for bit i; `locked` is LOCKLPM5.
+    pub fn levels(&self, port: u8, locked: bool) -> [Level; 8]
+        requires { (1 ≤ port) × (port ≤ 4) }
+        ensures { result ≡ levels_of (pins_of self.now locked) port }
+    {
+        self.pins(locked).levels(port)
+    }
+
+    /// The interrupt lines of this unit that stand: bit i is line i.
+    #[tactic(auto, unfolding(chip_words::specs::Ports::ports_lines))]
+    pub fn lines(&self) -> u16
+        ensures { result ≡ ports_lines self.now }
+    {
+        line(P1_LINE, self.first.waiting(ODD_PORT))
+            + line(P2_LINE, self.first.waiting(EVEN_PORT))
+            + line(P3_LINE, self.second.waiting(ODD_PORT))
+            + line(P4_LINE, self.second.waiting(EVEN_PORT))
+    }
+}
+
+/// The line of a number, which stands where some pin waits.
+fn line(number: u32, waiting: Option<u8>) -> u16
+    requires { number < 16 }
+    ensures line { result ≡ line_of_pin number waiting }
+    ensures within { result ≤ 2 ^ number }
+{
+    match waiting {
+        Some(_) => 1 << number,
+        None => 0,
+    }
+}
+
+/// The words of both pairs as one.
+fn joined(first: u16, second: u16) -> u32
+    ensures { result ≡ both first second }
+{
+    u32::from(first) | u32::from(second) << 16
+}
+
+/// Where the pins of a port begin in the words of its pair.
+fn start_of(port: u8) -> u8
+    ensures { result ≡ first_place port }
+{
+    if port % 2 == 0 { EVEN_PORT } else { ODD_PORT }
+}

@@ -1,0 +1,124 @@
+ghost use Rattle.std.specs.Prelude.{◌≡◌, ◌^◌, ◌<◌, ◌≤◌, IfSome};
+ghost use Rattle.chip_words.specs.Sizes.{IsByteOrWord, span};
+ghost use Rattle.chip_words.specs.Watchdog.{Watchdog as WatchdogRegisters, asks_for_reset, counts, ends_interval, first_watchdog, interval_of, watchdog_cause, watchdog_ticked, watchdog_word, watchdog_written};
+
+use chip_words::Size;
+use std::marker::Model;
+
+/// The upper byte of a word that is written to WDTCTL.
+const PASSWORD: u32 = 0x5A;
+/// The cause of the reset at any other write.
+const WATCHDOG_PASSWORD: u8 = 0x18;
+/// The lower byte of WDTCTL after a reset: 2^15 edges of SMCLK.
+const CONTROL_AT_RESET: u8 = 0x04;
+
+/// The watchdog (SLAU367, WDT_A).
+#[derive(Debug, Drop)]
+pub struct Watchdog {
+    control: u8,
+    /// Clock edges since the counter was 0.
+    counter: u32,
+}
+
+impl Model for Watchdog {
+    ghost Value = { WatchdogRegisters };
+
+    ghost view = { λ w. record { control = w.control; counter = w.counter } };
+
+    ghost invariant = { λ w. w.counter < 0x80000000 };
+}
+
+impl Watchdog {
+    /// The values after a reset of either kind.
+    pub fn new() -> Watchdog
+        ensures { result ≡ first_watchdog }
+    {
+        Watchdog {
+            control: CONTROL_AT_RESET,
+            counter: 0,
+        }
+    }
+
+    /// WDTCTL, which reads 69h in its upper byte.
+    pub fn word(&self) -> u16
+        ensures { result ≡ watchdog_word self.now }
+    {
+        0x6900 + u16::from(self.control)
+    }
+
+    /// Writes WDTCTL, and answers the cause of the reset that a write without the password asks for.
+    pub fn write(&mut self, size: Size, value: u32) -> Option<u8>
+        requires width { IsByteOrWord size }
+        requires fits { value < span size }
+        ensures watchdog { self.new ≡ watchdog_written self.old size value }
+        ensures cause { result ≡ watchdog_cause size value }
+        ensures number { IfSome result (λ cause. cause < 65) }
+    {
+        match size {
+            Size::Byte => Some(WATCHDOG_PASSWORD),
+            Size::Word | Size::Addr => {
+                if value >> 8 != PASSWORD {
+                    return Some(WATCHDOG_PASSWORD);
+                }
+                self.control = (value & 0xF7) as u8;
+                if (value >> 3) & 1 == 1 {
+                    self.counter = 0;
+                }
+                None
+            }
+        }
+    }
+
+    /// Takes the clock edges of a tick, and says whether an interval ends.
+    #[tactic(auto, unfolding(chip_words::specs::Watchdog::watchdog_ticked))]
+    pub fn tick(&mut self, smclk: bool, aclk: bool) -> bool
+        ensures ends { result ≡ ends_interval self.old smclk aclk }
+        ensures watchdog { self.new ≡ watchdog_ticked self.old smclk aclk }
+    {
+        if !self.counts(smclk, aclk) {
+            return false;
+        }
+        let counter = self.counter + 1;
+        let is_end = counter >= self.interval();
+        self.counter = if is_end { 0 } else { counter };
+        is_end
+    }
+
+    /// TMSEL is clear: an interval that ends asks for a reset.
+    pub fn asks_for_reset(&self) -> bool
+        ensures { result ≡ asks_for_reset self.now }
+    {
+        (self.control >> 4) & 1 == 0
+    }
+
+    /// Says whether the clock has an edge that is counted.
+    fn counts(&self, smclk: bool, aclk: bool) -> bool
+        ensures { result ≡ counts self.now smclk aclk }
+    {
+        let is_held = (self.control >> 7) & 1 == 1;
+        let has_edge = if (self.control >> 5) & 3 == 0 {
+            smclk
+        } else {
+            aclk
+        };
+        !is_held && has_edge
+    }
+
+    /// How many edges an interval has.
+    fn interval(&self) -> u32
+        ensures value { result ≡ interval_of self.now }
+        ensures most { result ≤ 0x80000000 }
+    {
+        match self.control & 7 {
+            0 => 1 << 31,
+            1 => 1 << 27,
+            2 => 1 << 23,
+            3 => 1 << 19,
+            4 => 1 << 15,
+            5 => 1 << 13,
+            6 => 1 << 9,
+            7 => 1 << 6,
+            _ => unreachable!(),
+        }
+    }
+}
