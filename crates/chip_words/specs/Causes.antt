@@ -1,6 +1,41 @@
--- The causes of resets (SLAU367, SYS), by number. The causes that are requested are told by a list of
--- 65 truth values, of which entry i is for cause i.
-use Rattle.std.specs.Prelude.{ℕ, ◌+◌, ◌==◌, ◌||◌, Bool, true, false, if◌then◌else◌, List, [], ◌∷◌, Option, Some, None, replicate, slice_set}
+-- The causes of resets (SLAU367, SYS), by number, as SYSRSTIV tells them. The causes that are requested are told by a list
+-- of 65 truth values, of which entry i is for cause i.
+use Rattle.std.specs.Prelude.{ℕ, ◌+◌, ◌==◌, ◌||◌, min, Bool, true, false, if◌then◌else◌, List, [], ◌∷◌, Option, Some, None, replicate, slice_set}
+
+-- power came on
+abbrev pub POWER_ON : ℕ
+POWER_ON = 0x02
+
+-- the debugger
+abbrev pub DEBUG_RESET : ℕ
+DEBUG_RESET = 0x04
+
+-- PMMSWBOR of PMMCTL0, and PMMSWPOR
+abbrev pub SOFTWARE_BOR : ℕ
+SOFTWARE_BOR = 0x06
+
+abbrev pub SOFTWARE_POR : ℕ
+SOFTWARE_POR = 0x14
+
+-- the watchdog ended an interval
+abbrev pub WATCHDOG_INTERVAL : ℕ
+WATCHDOG_INTERVAL = 0x16
+
+-- a write of WDTCTL without the password
+abbrev pub WATCHDOG_PASSWORD : ℕ
+WATCHDOG_PASSWORD = 0x18
+
+-- an instruction whose first word is in the peripherals
+abbrev pub PERIPHERAL_FETCH : ℕ
+PERIPHERAL_FETCH = 0x1E
+
+-- a write of PMMCTL0 without the password
+abbrev pub POWER_PASSWORD : ℕ
+POWER_PASSWORD = 0x20
+
+-- a reserved word, which is this project's own
+abbrev pub RESERVED_WORD : ℕ
+RESERVED_WORD = 0x40
 
 -- none is requested: it does not compute, so that a list of this length does not
 unfoldable pub no_causes : List Bool
@@ -19,6 +54,12 @@ least_from n (is_requested ∷ requested) = if is_requested then Some n else lea
 abbrev pub least_cause : List Bool → Option ℕ
 least_cause requested = least_from 0 requested
 
--- the causes of a BOR: power came on, the debugger, and SWBOR; all others are those of a PUC
+-- the lesser of two causes, where there are any
+abbrev pub lesser_cause : Option ℕ → Option ℕ → Option ℕ
+lesser_cause (Some one) (Some other) = Some (min one other)
+lesser_cause (Some one) None = Some one
+lesser_cause None other = other
+
+-- the causes of a BOR; all others are those of a PUC
 abbrev pub is_of_bor : ℕ → Bool
-is_of_bor cause = cause == 0x02 || cause == 0x04 || cause == 0x06
+is_of_bor cause = cause == POWER_ON || cause == DEBUG_RESET || cause == SOFTWARE_BOR

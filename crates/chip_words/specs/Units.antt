@@ -1,12 +1,15 @@
 -- The peripherals together, and what an access to one of their registers does.
-use Rattle.std.specs.Prelude.{ℕ, ◌-◌, ◌%◌, ◌==◌, ◌||◌, Bool, Option, None, if◌then◌else◌, bit_or}
+use Rattle.std.specs.Prelude.{ℕ, Bool, is_some, Option, Some, None}
 use Rattle.chip_words.specs.declared.sizes.Size.{Size}
 use Rattle.chip_words.specs.declared.accesses.Kind.{Kind}
 use Rattle.chip_words.specs.declared.accesses.Kind.TheVariants.{Write}
+use Rattle.chip_words.specs.declared.unit_names.UnitName.{UnitName}
+use Rattle.chip_words.specs.declared.unit_names.UnitName.TheVariants as of
+use Rattle.chip_words.specs.Addresses.{register_address, unit_at}
 use Rattle.chip_words.specs.Bits.{part_of}
-use Rattle.chip_words.specs.Sys.{Sys, is_of_clocks, sys_at_reset, sys_taken, sys_word, sys_touched, sys_written, sys_cause, sys_lines, sys_entered, sys_fired}
-use Rattle.chip_words.specs.Ports.{Ports, is_of_ports, ports_at_reset, ports_lines, ports_touched, ports_word, ports_written}
-use Rattle.chip_words.specs.Timers.{Timers, fired, first_timers, is_of_timers, timers_cause, timers_ticked, timers_word, timers_written}
+use Rattle.chip_words.specs.Sys.{Sys, sys_at_reset, sys_taken, sys_word, sys_touched, sys_written, sys_cause, sys_fired}
+use Rattle.chip_words.specs.Ports.{Ports, driven, ports_at_reset, ports_touched, ports_word, ports_written}
+use Rattle.chip_words.specs.Timers.{Timers, fired, first_timers, timers_cause, timers_ticked, timers_word, timers_written}
 
 pub record Units : Type 0 where
   pub sys : Sys
@@ -22,36 +25,59 @@ units_at_reset is_bor cause units = record {
 }
 
 -- the clock edges of a tick, each of which is there or isn't: the watchdog sets WDTIFG, and asks for a reset
--- with the cause 16h
 abbrev pub units_clocked : Bool → Bool → Units → Units
 units_clocked smclk aclk units = record units {
   timers = timers_ticked units.timers smclk aclk;
   sys = sys_fired (fired units.timers smclk aclk) units.sys;
 }
 
--- the interrupt lines of all units, of which bit i is line i
-abbrev pub units_lines : Units → ℕ
-units_lines units = bit_or (sys_lines units.sys) (ports_lines units.ports)
+-- the external level of a pin was set
+abbrev pub units_driven : ℕ → ℕ → Bool → Units → Units
+units_driven port bit level units = record units { ports = driven units.ports port bit level (units.sys).locked }
 
--- the entry with a vector clears the flag of its line, where a line has a single one: FFF2h is that of line 2
-abbrev pub units_entered : ℕ → Units → Units
-units_entered vector units = record units { sys = (if vector == 0xFFF2 then sys_entered units.sys else units.sys) }
+-- the word of a unit's register; where there is no unit it is 0
+abbrev pub word_in : Option UnitName → Units → ℕ → ℕ
+word_in (Some of.Sys) units at = sys_word units.sys (register_address at)
+word_in (Some of.Timers) units at = timers_word units.timers (register_address at)
+word_in (Some of.Ports) units at = ports_word units.ports (units.sys).locked (register_address at)
+word_in None units at = 0
 
--- the word of the register at an even address
+-- the word of the register that an address is of
 unfoldable pub word_of : Units → ℕ → ℕ
-word_of units at =
-    if is_of_ports at then ports_word units.ports (units.sys).locked at
-    else if is_of_timers at then timers_word units.timers at
-    else sys_word units.sys at
+word_of units at = word_in (unit_at at) units at
 
--- the even addresses that are built. Those of the ports that have no register read 0, and a write does
--- nothing to them. So it is with SYSSNIV at 019Ch, as long as no unit that it tells of is built.
-unfoldable pub is_built : ℕ → Bool
-is_built at =
-    at == 0x0100 || at == 0x0102 || at == 0x0120 || at == 0x0130 || at == 0x0180 || at == 0x019C || at == 0x019E
-    || is_of_clocks at
-    || is_of_timers at
-    || is_of_ports at
+-- what a read leaves of a unit
+abbrev pub touched_in : Option UnitName → Units → ℕ → Units
+touched_in (Some of.Sys) units at = record units { sys = sys_touched units.sys at }
+touched_in (Some of.Timers) units at = units
+touched_in (Some of.Ports) units at = record units { ports = ports_touched units.ports at }
+touched_in None units at = units
+
+-- the units behind a read
+unfoldable pub units_touched : Units → ℕ → Units
+units_touched units at = touched_in (unit_at at) units at
+
+-- what a write leaves of a unit
+abbrev pub written_in : Option UnitName → Units → ℕ → Size → ℕ → Units
+written_in (Some of.Sys) units at size value = record units { sys = sys_written units.sys at size value }
+written_in (Some of.Timers) units at size value = record units { timers = timers_written units.timers at size value }
+written_in (Some of.Ports) units at size value = record units { ports = ports_written units.ports at size value }
+written_in None units at size value = units
+
+-- the units behind a write
+unfoldable pub units_written : Units → ℕ → Size → ℕ → Units
+units_written units at size value = written_in (unit_at at) units at size value
+
+-- the reset that a write to a unit asks for
+abbrev pub cause_in : Option UnitName → Units → ℕ → Size → ℕ → Option ℕ
+cause_in (Some of.Sys) units at size value = sys_cause units.sys at size value
+cause_in (Some of.Timers) units at size value = timers_cause at size value
+cause_in (Some of.Ports) units at size value = None
+cause_in None units at size value = None
+
+-- the reset that a write asks for
+unfoldable pub units_cause : Units → ℕ → Size → ℕ → Option ℕ
+units_cause units at size value = cause_in (unit_at at) units at size value
 
 -- what the peripherals answer to an access, what they are behind it, the reset that it asks for, and
 -- whether its register is built
@@ -61,36 +87,16 @@ pub record Reply : Type 0 where
   pub cause : Option ℕ
   pub built : Bool
 
--- the units behind a read, of which each takes what is its own
-unfoldable pub units_touched : Units → ℕ → Units
-units_touched units at = record {
-  sys = sys_touched units.sys at;
-  ports = (if is_of_ports at then ports_touched units.ports at else units.ports);
-  timers = units.timers;
-}
-
--- the units behind a write
-unfoldable pub units_written : Units → ℕ → Size → ℕ → Units
-units_written units at size value = record {
-  sys = sys_written units.sys at size value;
-  ports = (if is_of_ports at then ports_written units.ports at size value else units.ports);
-  timers = timers_written units.timers at size value;
-}
-
--- the reset that a write asks for
-unfoldable pub units_cause : Units → ℕ → Size → ℕ → Option ℕ
-units_cause units at size value = if is_of_timers at then timers_cause at size value else sys_cause units.sys at size value
-
 unfoldable pub periph : Units → Kind → ℕ → Size → ℕ → Reply
 periph units Write at size value = record {
   value = value;
   units = units_written units at size value;
   cause = units_cause units at size value;
-  built = is_built (at - at % 2);
+  built = is_some (unit_at at);
 }
 periph units kind at size value = record {
-  value = part_of size at (word_of units (at - at % 2));
+  value = part_of size at (word_of units at);
   units = units_touched units at;
   cause = None;
-  built = is_built (at - at % 2);
+  built = is_some (unit_at at);
 }

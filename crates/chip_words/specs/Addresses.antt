@@ -1,0 +1,76 @@
+-- The registers of the peripherals by address, and which unit an address is of (SLAS704, peripheral file map).
+use Rattle.std.specs.Prelude.{ℕ, ◌+◌, ◌-◌, ◌%◌, ◌&&◌, nat_le, nat_lt, if◌then◌else◌, List, [], ◌∷◌, Option, Some, None}
+use Rattle.chip_words.specs.declared.unit_names.UnitName.{UnitName}
+use Rattle.chip_words.specs.declared.unit_names.UnitName.TheVariants.{Sys, Timers, Ports}
+
+abbrev pub SFRIE1 : ℕ
+SFRIE1 = 0x0100
+
+abbrev pub SFRIFG1 : ℕ
+SFRIFG1 = 0x0102
+
+abbrev pub PMMCTL0 : ℕ
+PMMCTL0 = 0x0120
+
+abbrev pub PM5CTL0 : ℕ
+PM5CTL0 = 0x0130
+
+abbrev pub WDTCTL : ℕ
+WDTCTL = 0x015C
+
+-- the first of the seven registers of the clock system
+abbrev pub CSCTL0 : ℕ
+CSCTL0 = 0x0160
+
+abbrev pub SYSCTL : ℕ
+SYSCTL = 0x0180
+
+abbrev pub SYSSNIV : ℕ
+SYSSNIV = 0x019C
+
+abbrev pub SYSRSTIV : ℕ
+SYSRSTIV = 0x019E
+
+-- the first register of the ports P1 and P2
+abbrev pub PAIN : ℕ
+PAIN = 0x0200
+
+-- and of the ports P3 and P4
+abbrev pub PBIN : ℕ
+PBIN = 0x0220
+
+-- so many bytes from an address on are of a unit
+pub record UnitRow : Type 0 where
+  pub low : ℕ
+  pub bytes : ℕ
+  pub unit : UnitName
+
+abbrev pub of_unit : ℕ → ℕ → UnitName → UnitRow
+of_unit low bytes unit = record { low = low; bytes = bytes; unit = unit }
+
+-- The ports have all addresses of their stretch: those without a register read 0, and a write does nothing to them. So
+-- it is with SYSSNIV, as long as no unit that it tells of is built.
+abbrev pub unit_rows : List UnitRow
+unit_rows =
+    of_unit SFRIE1 4 Sys
+    ∷ of_unit PMMCTL0 2 Sys
+    ∷ of_unit PM5CTL0 2 Sys
+    ∷ of_unit WDTCTL 2 Timers
+    ∷ of_unit CSCTL0 14 Sys
+    ∷ of_unit SYSCTL 2 Sys
+    ∷ of_unit SYSSNIV 4 Sys
+    ∷ of_unit PAIN 0x40 Ports
+    ∷ []
+
+-- the unit of the first row that has an address
+abbrev pub unit_in : List UnitRow → ℕ → Option UnitName
+unit_in [] at = None
+unit_in (row ∷ rows) at = if nat_le row.low at && nat_lt at (row.low + row.bytes) then Some row.unit else unit_in rows at
+
+-- the unit that an address is of; an address of none isn't built
+unfoldable pub unit_at : ℕ → Option UnitName
+unit_at at = unit_in unit_rows at
+
+-- the even address of the register that an address is of
+abbrev pub register_address : ℕ → ℕ
+register_address at = at - at % 2
