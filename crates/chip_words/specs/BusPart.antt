@@ -15,8 +15,12 @@ pub record BusPart : Type 0 where
   pub budget : Option ℕ
   -- how many writes the tick has had
   pub writes : ℕ
+  -- the places of the step's violations so far; no unit that notes any is built
+  pub noted : ℕ
   -- the accesses of the step so far
   pub accesses : List Access
+  -- the causes of the resets that its accesses have requested so far
+  pub causes : List Bool
   -- something that isn't built was met
   pub stop : Bool
 

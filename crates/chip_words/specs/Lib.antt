@@ -7,13 +7,16 @@ pub mod Signed
 pub mod Decimals
 pub mod Passwords
 pub mod Causes
+pub mod Addresses
+pub mod InterruptLines
 pub mod Sys
-pub mod Interrupts
 pub mod Ports
 pub mod Watchdog
 pub mod Timers
 pub mod Units
+pub mod Interrupts
 pub mod Right
 pub mod BusPart
 pub mod Access
 pub mod Script
+pub mod Steps

@@ -4,8 +4,10 @@
 
 mod accesses;
 mod buses;
+mod causes;
 mod decimals;
 mod fired;
+mod interrupt_lines;
 mod memory;
 mod no_memory;
 mod parts;
@@ -14,14 +16,24 @@ mod registers;
 mod sizes;
 #[cfg(test)]
 mod tests;
+mod unit_names;
 
 pub use accesses::{Access, Agent, Kind};
 pub use buses::Bus;
+pub use causes::{
+    CAUSE_COUNT, DEBUG_RESET, PERIPHERAL_FETCH, POWER_ON, POWER_PASSWORD, RESERVED_WORD,
+    SOFTWARE_BOR, SOFTWARE_POR, WATCHDOG_INTERVAL, WATCHDOG_PASSWORD,
+};
 pub use decimals::bcd_add;
 pub use fired::Fired;
-pub use memory::{load, memory_size, store};
+pub use interrupt_lines::{P1_LINE, P2_LINE, P3_LINE, P4_LINE, VECTORS, WATCHDOG_LINE};
+pub use memory::{fill_within, load, memory_size, store};
 pub use no_memory::NoMemory;
 pub use parts::{part, word_with_part};
 pub use regions::Region;
-pub use registers::Regs;
+pub use registers::{CG, PC, Regs, SP, SR};
 pub use sizes::{Size, signed, wrap20};
+pub use unit_names::{
+    CSCTL0, CSCTL6, PAIN, PBIN, PM5CTL0, PMMCTL0, SFRIE1, SFRIFG1, SYSCTL, SYSRSTIV, SYSSNIV,
+    UnitName, WDTCTL, unit_at,
+};
