@@ -1,6 +1,6 @@
 -- The least of the causes that are requested, behind each change of the requests.
-use Rattle.std.proofs.Common.{◌≡◌, ℕ, zero, suc, ◌+◌, ◌<◌, ◌≤◌, min, Bool, true, false, List, [], ◌∷◌, Option, Some, None, IfSome, length, slice_set, refl, ap, sym, arith}
-use Rattle.chip_words.specs.Causes.{least_from, least_cause}
+use Rattle.std.proofs.Common.{◌≡◌, ℕ, zero, suc, ◌+◌, ◌<◌, ◌≤◌, min, Bool, true, false, List, [], ◌∷◌, Option, Some, None, IfSome, length, slice_set, replicate, refl, ap, sym, arith}
+use Rattle.chip_words.specs.Causes.{least_from, least_cause, no_causes}
 
 -- the lesser of a number and another one, if there is one
 abbrev pub lesser_with : ℕ → Option ℕ → ℕ
@@ -30,3 +30,13 @@ least_from-slice_set n (suc k) (false ∷ requested) h = let e : n + suc k ≡ n
 -- one more request
 pub least_cause-slice_set : (k : ℕ) (requested : List Bool) → k < length requested → least_cause (slice_set requested k true) ≡ Some (lesser_with k (least_cause requested))
 least_cause-slice_set k requested h = let e : 0 + k ≡ k = omega arith in rw e at (least_from-slice_set 0 k requested h)
+
+least_from-none : (n : ℕ) (requested : List Bool) → least_from n requested ≡ None → requested ≡ replicate (length requested) false
+least_from-none n [] h = refl
+least_from-none n (true ∷ requested) h = absurd (grind arith)
+least_from-none n (false ∷ requested) h = ap (λ rest. false ∷ rest) (least_from-none (n + 1) requested h)
+
+-- where there is no least cause, none is requested
+pub least_cause-none : (requested : List Bool) → length requested ≡ 65 → least_cause requested ≡ None → requested ≡ no_causes
+unfolding no_causes
+least_cause-none requested long none = rw long at (least_from-none 0 requested none)

@@ -1,11 +1,7 @@
 ghost use Rattle.std.specs.Prelude.{◌≡◌, ◌<◌, ◌≤◌, ◌%◌, IfSome};
 ghost use Rattle.chip_words.specs.Interrupts.{accepted, greatest, standing, vectors};
 
-/// The address of each line's vector, from line 0 on: it falls from line to line.
-const VECTORS: [u32; 13] = [
-    0xFFF6, 0xFFF4, 0xFFF2, 0xFFF0, 0xFFEA, 0xFFE8, 0xFFE4, 0xFFE2, 0xFFE0, 0xFFDE, 0xFFD8, 0xFFD2,
-    0xFFD0,
-];
+use chip_words::VECTORS;
 
 /// The vector of the NMI.
 const NMI_VECTOR: u32 = 0xFFFC;

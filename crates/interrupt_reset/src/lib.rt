@@ -8,5 +8,6 @@ mod system;
 #[cfg(test)]
 mod tests;
 
+pub use causes::Causes;
 pub use interrupts::best;
 pub use system::Sys;

@@ -1,4 +1,4 @@
-use crate::{Sys, best};
+use crate::{Causes, Sys, best};
 use chip_words::Size;
 
 /// The unit before any reset, with the latch of PMMCTL0.
@@ -122,6 +122,21 @@ fn the_least_cause_is_taken(rt: HostRuntime) {
     assert_eq!(rt; sys.pending(), None);
     sys.request(0x16);
     assert_eq!(rt; sys.pending(), Some(0x16));
+}
+
+#[test]
+fn requests_are_dropped_together(rt: HostRuntime) {
+    let mut causes = Causes::new();
+    causes.clear();
+    assert_eq!(rt; causes.least(), None);
+    for (cause, least) in [(0x40, 0x40), (0x16, 0x16), (0x1E, 0x16)] {
+        causes.request(cause);
+        assert_eq!(rt; causes.least(), Some(least));
+    }
+    causes.clear();
+    assert_eq!(rt; causes.least(), None);
+    causes.request(0x40);
+    assert_eq!(rt; causes.least(), Some(0x40));
 }
 
 #[test]
