@@ -1,13 +1,12 @@
-ghost use Rattle.std.specs.Prelude.{◌≡◌, ◌-◌, ◌%◌, ◌<◌, IfSome};
+ghost use Rattle.std.specs.Prelude.{◌≡◌, ◌<◌, IfSome};
+ghost use Rattle.chip_words.specs.Addresses.{register_address};
 ghost use Rattle.chip_words.specs.Bits.{part_of};
 ghost use Rattle.chip_words.specs.Sizes.{IsByteOrWord, span};
 ghost use Rattle.chip_words.specs.Timers.{Timers as TimerRegisters, fired, first_timers, timers_cause, timers_ticked, timers_word, timers_written};
 
 use crate::watchdog::Watchdog;
-use chip_words::{Fired, Size, part};
+use chip_words::{Fired, Size, WDTCTL, part};
 use std::marker::Model;
-
-const WDTCTL: u32 = 0x015C;
 
 /// The timers of the chip.
 #[derive(Debug, Drop)]
@@ -41,7 +40,7 @@ impl Timers {
     /// Reads at an address of this unit.
     pub fn read(&mut self, at: u32, size: Size) -> u32
         requires { IsByteOrWord size }
-        ensures value { result ≡ part_of size at (timers_word self.old (at - at % 2)) }
+        ensures value { result ≡ part_of size at (timers_word self.old (register_address at)) }
         ensures small { result < span size }
         ensures timers { self.new ≡ self.old }
     {

@@ -2,20 +2,27 @@ ghost use Rattle.std.specs.Prelude.{◌≡◌, ◌^◌, ◌<◌, ◌≤◌, IfSo
 ghost use Rattle.chip_words.specs.Sizes.{IsByteOrWord, span};
 ghost use Rattle.chip_words.specs.Watchdog.{Watchdog as WatchdogRegisters, asks_for_reset, counts, ends_interval, first_watchdog, interval_of, watchdog_cause, watchdog_ticked, watchdog_word, watchdog_written};
 
-use chip_words::Size;
+use chip_words::{Size, WATCHDOG_PASSWORD};
 use std::marker::Model;
 
 /// The upper byte of a word that is written to WDTCTL.
 const PASSWORD: u32 = 0x5A;
-/// The cause of the reset at any other write.
-const WATCHDOG_PASSWORD: u8 = 0x18;
+
 /// The lower byte of WDTCTL after a reset: 2^15 edges of SMCLK.
-const CONTROL_AT_RESET: u8 = 0x04;
+const WDTCTL_AT_RESET: u8 = 0x04;
+
+// The numbers of the bits of WDTCTL that stand alone.
+
+const WDTCNTCL: u32 = 3;
+
+const WDTTMSEL: u32 = 4;
+
+const WDTHOLD: u32 = 7;
 
 /// The watchdog (SLAU367, WDT_A).
 #[derive(Debug, Drop)]
 pub struct Watchdog {
-    control: u8,
+    wdtctl: u8,
     /// Clock edges since the counter was 0.
     counter: u32,
 }
@@ -23,7 +30,7 @@ pub struct Watchdog {
 impl Model for Watchdog {
     ghost Value = { WatchdogRegisters };
 
-    ghost view = { λ w. record { control = w.control; counter = w.counter } };
+    ghost view = { λ w. record { wdtctl = w.wdtctl; counter = w.counter } };
 
     ghost invariant = { λ w. w.counter < 0x80000000 };
 }
@@ -34,7 +41,7 @@ impl Watchdog {
         ensures { result ≡ first_watchdog }
     {
         Watchdog {
-            control: CONTROL_AT_RESET,
+            wdtctl: WDTCTL_AT_RESET,
             counter: 0,
         }
     }
@@ -43,7 +50,7 @@ impl Watchdog {
     pub fn word(&self) -> u16
         ensures { result ≡ watchdog_word self.now }
     {
-        0x6900 + u16::from(self.control)
+        0x6900 + u16::from(self.wdtctl)
     }
 
     /// Writes WDTCTL, and answers the cause of the reset that a write without the password asks for.
@@ -60,8 +67,8 @@ impl Watchdog {
                 if value >> 8 != PASSWORD {
                     return Some(WATCHDOG_PASSWORD);
                 }
-                self.control = (value & 0xF7) as u8;
-                if (value >> 3) & 1 == 1 {
+                self.wdtctl = (value & (0xFF - (1 << WDTCNTCL))) as u8;
+                if (value >> WDTCNTCL) & 1 == 1 {
                     self.counter = 0;
                 }
                 None
@@ -84,19 +91,19 @@ impl Watchdog {
         is_end
     }
 
-    /// TMSEL is clear: an interval that ends asks for a reset.
+    /// WDTTMSEL is clear: an interval that ends asks for a reset.
     pub fn asks_for_reset(&self) -> bool
         ensures { result ≡ asks_for_reset self.now }
     {
-        (self.control >> 4) & 1 == 0
+        (self.wdtctl >> WDTTMSEL) & 1 == 0
     }
 
-    /// Says whether the clock has an edge that is counted.
+    /// Says whether the clock that WDTSSEL selects has an edge that is counted.
     fn counts(&self, smclk: bool, aclk: bool) -> bool
         ensures { result ≡ counts self.now smclk aclk }
     {
-        let is_held = (self.control >> 7) & 1 == 1;
-        let has_edge = if (self.control >> 5) & 3 == 0 {
+        let is_held = (self.wdtctl >> WDTHOLD) & 1 == 1;
+        let has_edge = if (self.wdtctl >> 5) & 3 == 0 {
             smclk
         } else {
             aclk
@@ -104,12 +111,12 @@ impl Watchdog {
         !is_held && has_edge
     }
 
-    /// How many edges an interval has.
+    /// How many edges an interval has, by WDTIS.
     fn interval(&self) -> u32
         ensures value { result ≡ interval_of self.now }
         ensures most { result ≤ 0x80000000 }
     {
-        match self.control & 7 {
+        match self.wdtctl & 7 {
             0 => 1 << 31,
             1 => 1 << 27,
             2 => 1 << 23,
