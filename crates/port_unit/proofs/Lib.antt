@@ -1,1 +1,2 @@
 pub mod LeastPin
+pub mod SameLevels

@@ -1,5 +1,5 @@
 -- The levels of the pins of P1 to P4, as the outside sees them.
-use Rattle.std.specs.Prelude.{ℕ, ◌+◌, ◌-◌, ◌*◌, ◌/◌, ◌%◌, ◌^◌, Bool, if◌then◌else◌, List, [], ◌∷◌, bit_and}
+use Rattle.std.specs.Prelude.{ℕ, ◌+◌, ◌-◌, ◌*◌, ◌/◌, ◌%◌, ◌^◌, Bool, true, false, ◌&&◌, if◌then◌else◌, List, [], ◌∷◌, bit_and}
 use Rattle.chip_words.specs.Bits.{has_bit}
 use Rattle.chip_words.specs.Ports.{Ports}
 use Rattle.port_unit.specs.declared.levels.Level.{Level}
@@ -12,7 +12,7 @@ both first second = first + 0x10000 * second
 
 -- the pins that are outputs and aren't locked
 abbrev pub driven_of : Ports → Bool → ℕ
-driven_of ports locked = if locked then 0 else both (ports.first).direction (ports.second).direction
+driven_of ports locked = if locked then 0 else both (ports.first).dir (ports.second).dir
 
 -- which pins the ports drive, and which of these are high
 unfoldable pub pins_of : Ports → Bool → Pins
@@ -43,3 +43,15 @@ levels_of pins port =
     ∷ level_of (port_of port pins) 6
     ∷ level_of (port_of port pins) 7
     ∷ []
+
+abbrev pub same_level : Level → Level → Bool
+same_level Low Low = true
+same_level High High = true
+same_level Open Open = true
+same_level one other = false
+
+-- as many levels, and each the same
+abbrev pub same_levels : List Level → List Level → Bool
+same_levels [] [] = true
+same_levels (one ∷ ones) (other ∷ others) = same_level one other && same_levels ones others
+same_levels ones others = false

@@ -21,7 +21,7 @@ const SEL0: u32 = 0x0A;
 const SEL1: u32 = 0x0C;
 
 /// IV of the odd-numbered port.
-const ODD_IV: u32 = 0x0E;
+const LOW_IV: u32 = 0x0E;
 
 const SELC: u32 = 0x16;
 
@@ -32,13 +32,13 @@ const IE: u32 = 0x1A;
 const IFG: u32 = 0x1C;
 
 /// IV of the even-numbered port.
-const EVEN_IV: u32 = 0x1E;
+const HIGH_IV: u32 = 0x1E;
 
 /// Where the pins of the odd-numbered port begin in each word.
-pub const ODD_PORT: u8 = 0;
+pub const LOW_PORT: u8 = 0;
 
 /// Where the pins of the even-numbered port begin in each word.
-pub const EVEN_PORT: u8 = 8;
+pub const HIGH_PORT: u8 = 8;
 
 /// The registers of two ports that share their even addresses, and the external levels of their pins
 /// (SLAU367, digital I/O). In each word the odd-numbered port is bits 7:0.
@@ -46,14 +46,14 @@ pub const EVEN_PORT: u8 = 8;
 pub struct PortPair {
     levels: u16,
     out: u16,
-    direction: u16,
-    resistors: u16,
-    select_0: u16,
-    select_1: u16,
-    select_both: u16,
-    edges: u16,
-    enables: u16,
-    flags: u16,
+    dir: u16,
+    ren: u16,
+    sel0: u16,
+    sel1: u16,
+    selc: u16,
+    ies: u16,
+    ie: u16,
+    ifg: u16,
 }
 
 impl Model for PortPair {
@@ -62,14 +62,14 @@ impl Model for PortPair {
     ghost view = { λ p. record {
       levels = p.levels;
       out = p.out;
-      direction = p.direction;
-      resistors = p.resistors;
-      select_0 = p.select_0;
-      select_1 = p.select_1;
-      select_both = p.select_both;
-      edges = p.edges;
-      enables = p.enables;
-      flags = p.flags;
+      dir = p.dir;
+      ren = p.ren;
+      sel0 = p.sel0;
+      sel1 = p.sel1;
+      selc = p.selc;
+      ies = p.ies;
+      ie = p.ie;
+      ifg = p.ifg;
     } };
 }
 
@@ -80,14 +80,14 @@ impl PortPair {
         PortPair {
             levels: 0,
             out: 0,
-            direction: 0,
-            resistors: 0,
-            select_0: 0,
-            select_1: 0,
-            select_both: 0,
-            edges: 0,
-            enables: 0,
-            flags: 0,
+            dir: 0,
+            ren: 0,
+            sel0: 0,
+            sel1: 0,
+            selc: 0,
+            ies: 0,
+            ie: 0,
+            ifg: 0,
         }
     }
 
@@ -96,14 +96,14 @@ impl PortPair {
         ensures { self.new ≡ pair_at_reset self.old }
     {
         self.out = 0;
-        self.direction = 0;
-        self.resistors = 0;
-        self.select_0 = 0;
-        self.select_1 = 0;
-        self.select_both = 0;
-        self.edges = 0;
-        self.enables = 0;
-        self.flags = 0;
+        self.dir = 0;
+        self.ren = 0;
+        self.sel0 = 0;
+        self.sel1 = 0;
+        self.selc = 0;
+        self.ies = 0;
+        self.ie = 0;
+        self.ifg = 0;
     }
 
     pub fn out(&self) -> u16
@@ -112,10 +112,10 @@ impl PortPair {
         self.out
     }
 
-    pub fn direction(&self) -> u16
-        ensures { result ≡ (self.now).direction }
+    pub fn dir(&self) -> u16
+        ensures { result ≡ (self.now).dir }
     {
-        self.direction
+        self.dir
     }
 
     /// Reads the word at a distance from the first address of the pair.
@@ -146,16 +146,16 @@ impl PortPair {
         match at {
             IN => self.inputs(locked),
             OUT => self.out,
-            DIR => self.direction,
-            REN => self.resistors,
-            SEL0 => self.select_0,
-            SEL1 => self.select_1,
-            ODD_IV => self.vector(ODD_PORT),
-            SELC => self.select_both,
-            IES => self.edges,
-            IE => self.enables,
-            IFG => self.flags,
-            EVEN_IV => self.vector(EVEN_PORT),
+            DIR => self.dir,
+            REN => self.ren,
+            SEL0 => self.sel0,
+            SEL1 => self.sel1,
+            LOW_IV => self.vector(LOW_PORT),
+            SELC => self.selc,
+            IES => self.ies,
+            IE => self.ie,
+            IFG => self.ifg,
+            HIGH_IV => self.vector(HIGH_PORT),
             _ => 0,
         }
     }
@@ -165,8 +165,8 @@ impl PortPair {
         ensures { self.new ≡ pair_touched self.old at }
     {
         match at {
-            ODD_IV => self.clear_waiting(ODD_PORT),
-            EVEN_IV => self.clear_waiting(EVEN_PORT),
+            LOW_IV => self.clear_waiting(LOW_PORT),
+            HIGH_IV => self.clear_waiting(HIGH_PORT),
             _ => {}
         }
     }
@@ -176,14 +176,14 @@ impl PortPair {
     {
         match at {
             OUT => self.out = word,
-            DIR => self.direction = word,
-            REN => self.resistors = word,
-            SEL0 => self.select_0 = word,
-            SEL1 => self.select_1 = word,
-            SELC => self.select_both = word,
-            IES => self.edges = word,
-            IE => self.enables = word,
-            IFG => self.flags = word,
+            DIR => self.dir = word,
+            REN => self.ren = word,
+            SEL0 => self.sel0 = word,
+            SEL1 => self.sel1 = word,
+            SELC => self.selc = word,
+            IES => self.ies = word,
+            IE => self.ie = word,
+            IFG => self.ifg = word,
             _ => self.touch(at),
         }
     }
@@ -194,13 +194,13 @@ impl PortPair {
         if locked {
             self.levels
         } else {
-            (self.out & self.direction) | (self.levels & !self.direction)
+            (self.out & self.dir) | (self.levels & !self.dir)
         }
     }
 
     /// IV of the port whose pins begin at a place.
     fn vector(&self, place: u8) -> u16
-        requires { (place ≡ 0) ⊎ (place ≡ 8) }
+        requires { (place ≡ LOW_PORT) ⊎ (place ≡ HIGH_PORT) }
         ensures { result ≡ vector_number (waiting_pin self.now place) }
     {
         match self.waiting(place) {
@@ -211,23 +211,23 @@ impl PortPair {
 
     /// Clears the flag that IV tells of.
     fn clear_waiting(&mut self, place: u8)
-        requires { (place ≡ 0) ⊎ (place ≡ 8) }
+        requires { (place ≡ LOW_PORT) ⊎ (place ≡ HIGH_PORT) }
         ensures { self.new ≡ record self.old {
-          flags = without_flag (waiting_pin self.old place) place (self.old).flags;
+          ifg = without_flag (waiting_pin self.old place) place (self.old).ifg;
         } }
     {
         if let Some(pin) = self.waiting(place) {
-            self.flags &= !(1 << (place + pin));
+            self.ifg &= !(1 << (place + pin));
         }
     }
 
     /// The least pin, 0 to 7, whose flag and enable are set, of the port whose pins begin at a place.
     pub fn waiting(&self, place: u8) -> Option<u8>
-        requires { (place ≡ 0) ⊎ (place ≡ 8) }
+        requires { (place ≡ LOW_PORT) ⊎ (place ≡ HIGH_PORT) }
         ensures pin { result ≡ waiting_pin self.now place }
         ensures number { IfSome result (λ pin. pin < 8) }
     {
-        first_set(((self.flags & self.enables) >> place) & 0xFF)
+        first_set(((self.ifg & self.ie) >> place) & 0xFF)
     }
 
     /// Sets the external level of the pin at a place. An edge of IN that IES waits for sets its flag.
@@ -238,8 +238,8 @@ impl PortPair {
         let before = is_set(self.inputs(locked), place);
         self.set_level(place, level);
         let after = is_set(self.inputs(locked), place);
-        if !locked && is_awaited(is_set(self.edges, place), before, after) {
-            self.flags |= 1 << place;
+        if !locked && is_awaited(is_set(self.ies, place), before, after) {
+            self.ifg |= 1 << place;
         }
     }
 

@@ -1,5 +1,5 @@
 ghost use Rattle.std.specs.Prelude.{◌≡◌, ◌<◌, ◌≤◌};
-ghost use Rattle.port_unit.specs.Pins.{level_of, levels_of, port_bits, port_of};
+ghost use Rattle.port_unit.specs.Pins.{level_of, levels_of, port_bits, port_of, same_levels};
 
 use crate::levels::Level;
 
@@ -41,6 +41,17 @@ impl Pins {
             driven: byte_of(port, self.driven),
             high: byte_of(port, self.high),
         }
+    }
+
+    /// Whether these and other pins have the same levels at a port.
+    pub fn has_same_levels(&self, other: &Pins, port: u8) -> bool
+        requires { (1 ≤ port) × (port ≤ 4) }
+        ensures { result ≡ same_levels (levels_of self.now port) (levels_of other.now port) }
+    {
+        let one = self.of_port(port);
+        let other = other.of_port(port);
+        // Where a pin isn't driven its other bit is no level.
+        one.driven == other.driven && one.high & one.driven == other.high & other.driven
     }
 
     /// The level of pin `n`, 0 to 7, of the port in bits 7:0.

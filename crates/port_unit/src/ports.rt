@@ -1,30 +1,16 @@
-ghost use Rattle.std.specs.Prelude.{◌≡◌, ◌-◌, ◌<◌, ◌≤◌, ◌%◌, ◌^◌, None};
+ghost use Rattle.std.specs.Prelude.{◌≡◌, ◌<◌, ◌≤◌, ◌+◌, ◌^◌, Some, None, is_some};
+ghost use Rattle.chip_words.specs.Addresses.{register_address, unit_at};
 ghost use Rattle.chip_words.specs.Bits.{part_of};
-ghost use Rattle.chip_words.specs.Ports.{Ports as PortRegisters, driven, first_place, first_ports, line_of_pin, ports_at_reset, ports_lines, ports_touched, ports_word, ports_written};
+ghost use Rattle.chip_words.specs.InterruptLines.{P4_LINE as LAST_LINE, line_word};
+ghost use Rattle.chip_words.specs.Ports.{Ports as PortRegisters, driven, first_place, first_ports, ports_at_reset, ports_lines, ports_touched, ports_word, ports_written};
 ghost use Rattle.chip_words.specs.Sizes.{IsByteOrWord, span};
 ghost use Rattle.port_unit.specs.Pins.{both, levels_of, pins_of};
 
 use crate::levels::Level;
-use crate::pairs::{EVEN_PORT, ODD_PORT, PortPair};
+use crate::pairs::{HIGH_PORT, LOW_PORT, PortPair};
 use crate::pins::Pins;
-use chip_words::{Size, part};
+use chip_words::{P1_LINE, P2_LINE, P3_LINE, P4_LINE, PAIN, PBIN, Size, UnitName, part};
 use std::marker::Model;
-
-/// Where the registers of P1 and P2 begin.
-const FIRST_PAIR: u32 = 0x0200;
-
-/// Where the registers of P3 and P4 begin.
-const SECOND_PAIR: u32 = 0x0220;
-
-// The numbers of the interrupt lines.
-
-const P1_LINE: u32 = 9;
-
-const P2_LINE: u32 = 10;
-
-const P3_LINE: u32 = 11;
-
-const P4_LINE: u32 = 12;
 
 /// The registers of the ports P1 to P4, and the external levels of their pins (SLAU367, digital I/O).
 #[derive(Debug, Drop)]
@@ -59,37 +45,37 @@ impl Ports {
     }
 
     /// Reads at an address of this unit; `locked` is LOCKLPM5.
-    #[tactic(auto, unfolding(chip_words::specs::Ports::ports_word, chip_words::specs::Ports::ports_touched))]
+    #[tactic(auto, using(chip_words::proofs::Addresses::in_ports), unfolding(chip_words::specs::Ports::ports_word, chip_words::specs::Ports::ports_touched))]
     pub fn read(&mut self, at: u32, size: Size, locked: bool) -> u32
-        requires place { (0x0200 ≤ at) × (at < 0x0240) }
+        requires unit { unit_at at ≡ Some UnitName.Ports }
         requires width { IsByteOrWord size }
-        ensures value { result ≡ part_of size at (ports_word self.old locked (at - at % 2)) }
+        ensures word { result ≡ part_of size at (ports_word self.old locked (register_address at)) }
         ensures small { result < span size }
         ensures ports { self.new ≡ ports_touched self.old at }
     {
         let even = at - at % 2;
-        let word = if at < SECOND_PAIR {
-            self.first.read(even - FIRST_PAIR, locked)
+        let word = if at < PBIN {
+            self.first.read(even - PAIN, locked)
         } else {
-            self.second.read(even - SECOND_PAIR, locked)
+            self.second.read(even - PBIN, locked)
         };
         part(size, at, word)
     }
 
     /// Writes at an address of this unit, which never requests a reset.
-    #[tactic(auto, unfolding(chip_words::specs::Ports::ports_written))]
+    #[tactic(auto, using(chip_words::proofs::Addresses::in_ports), unfolding(chip_words::specs::Ports::ports_written))]
     pub fn write(&mut self, at: u32, size: Size, value: u32) -> Option<u8>
-        requires place { (0x0200 ≤ at) × (at < 0x0240) }
+        requires unit { unit_at at ≡ Some UnitName.Ports }
         requires width { IsByteOrWord size }
         requires fits { value < span size }
         ensures ports { self.new ≡ ports_written self.old at size value }
         ensures cause { result ≡ None }
     {
         let value = value as u16;
-        if at < SECOND_PAIR {
-            self.first.write(at - FIRST_PAIR, size, value);
+        if at < PBIN {
+            self.first.write(at - PAIN, size, value);
         } else {
-            self.second.write(at - SECOND_PAIR, size, value);
+            self.second.write(at - PBIN, size, value);
         }
         None
     }
@@ -117,7 +103,7 @@ impl Ports {
         let driven = if locked {
             0
         } else {
-            joined(self.first.direction(), self.second.direction())
+            joined(self.first.dir(), self.second.dir())
         };
         Pins {
             driven,
@@ -136,19 +122,20 @@ impl Ports {
     /// The interrupt lines of this unit that stand: bit i is line i.
     #[tactic(auto, unfolding(chip_words::specs::Ports::ports_lines))]
     pub fn lines(&self) -> u16
-        ensures { result ≡ ports_lines self.now }
+        ensures lines { result ≡ ports_lines self.now }
+        ensures within { result < 2 ^ (LAST_LINE + 1) }
     {
-        line(P1_LINE, self.first.waiting(ODD_PORT))
-            + line(P2_LINE, self.first.waiting(EVEN_PORT))
-            + line(P3_LINE, self.second.waiting(ODD_PORT))
-            + line(P4_LINE, self.second.waiting(EVEN_PORT))
+        line(P1_LINE, self.first.waiting(LOW_PORT))
+            + line(P2_LINE, self.first.waiting(HIGH_PORT))
+            + line(P3_LINE, self.second.waiting(LOW_PORT))
+            + line(P4_LINE, self.second.waiting(HIGH_PORT))
     }
 }
 
 /// The line of a number, which stands where some pin waits.
-fn line(number: u32, waiting: Option<u8>) -> u16
+fn line(number: u8, waiting: Option<u8>) -> u16
     requires { number < 16 }
-    ensures line { result ≡ line_of_pin number waiting }
+    ensures line { result ≡ line_word number (is_some waiting) }
     ensures within { result ≤ 2 ^ number }
 {
     match waiting {
@@ -168,5 +155,5 @@ fn joined(first: u16, second: u16) -> u32
 fn start_of(port: u8) -> u8
     ensures { result ≡ first_place port }
 {
-    if port % 2 == 0 { EVEN_PORT } else { ODD_PORT }
+    if port % 2 == 0 { HIGH_PORT } else { LOW_PORT }
 }

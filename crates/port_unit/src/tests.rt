@@ -1,7 +1,10 @@
-ghost use Rattle.std.specs.Prelude.{◌<◌, ◌≤◌};
+#![tactic(auto, using(chip_words::proofs::Addresses::unit_at_ports))]
+
+ghost use Rattle.std.specs.Prelude.{◌≡◌, Some};
+ghost use Rattle.chip_words.specs.Addresses.{unit_at};
 
 use crate::{Level, Pins, Ports};
-use chip_words::Size;
+use chip_words::{Size, UnitName};
 
 /// The first addresses of both pairs.
 const PAIRS: [u32; 2] = [0x0200, 0x0220];
@@ -10,7 +13,7 @@ const PAIRS: [u32; 2] = [0x0200, 0x0220];
 const STORED: [u32; 9] = [0x02, 0x04, 0x06, 0x0A, 0x0C, 0x16, 0x18, 0x1A, 0x1C];
 
 fn word(ports: &mut Ports, at: u32) -> u32
-    requires { (0x0200 ≤ at) × (at < 0x0240) }
+    requires { unit_at at ≡ Some UnitName.Ports }
 {
     ports.read(at, Size::Word, false)
 }
@@ -228,5 +231,27 @@ fn outputs_have_levels(rt: HostRuntime) {
         assert_eq!(rt; ports.levels(port, false) == levels, true);
         assert_eq!(rt; pins.levels(port) == levels, true);
         assert_eq!(rt; ports.levels(port, true) == [open; 8], true);
+    }
+}
+
+#[test]
+fn only_levels_are_compared(rt: HostRuntime) {
+    for (driven, high, other_driven, other_high, same) in [
+        (0x0F00_u32, 0x0500_u32, 0x0F00_u32, 0x0500_u32, true),
+        (0x0F00, 0x0500, 0x0F00, 0x0D00, false),
+        (0x0F00, 0x0500, 0x8F00, 0x0500, false),
+        // A pin that isn't driven is open, whatever its other bit is.
+        (0x0F00, 0x0500, 0x0F00, 0xF500, true),
+        // The pins are those of P2.
+        (0x0F00, 0x0500, 0x0F0F, 0x0505, true),
+    ] {
+        let one = Pins { driven, high };
+        let other = Pins {
+            driven: other_driven,
+            high: other_high,
+        };
+        assert_eq!(rt; one.has_same_levels(&other, 2), same);
+        assert_eq!(rt; other.has_same_levels(&one, 2), same);
+        assert_eq!(rt; one.levels(2) == other.levels(2), same);
     }
 }
