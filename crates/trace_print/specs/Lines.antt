@@ -11,11 +11,15 @@ IsPrintable (Boot control first_border second_border) = (first_border < 2 ^ 20) 
 IsPrintable (Pin port levels) = (1 ≤ port) × (port ≤ 4)
 IsPrintable _ = Unit {0}
 
+-- the control bits of IP Encapsulation, and both borders
+abbrev pub boot_text : ℕ → ℕ → ℕ → List ℕ
+boot_text control first_border second_border =
+    codes "BOOT " ++ hex_digits 2 control ++ codes " " ++ hex_digits 5 first_border ++ codes " " ++ hex_digits 5 second_border
+
 -- what stands behind the tick
 abbrev pub text_of : TraceItem → List ℕ
 text_of On = codes "ON"
-text_of (Boot control first_border second_border) =
-    codes "BOOT " ++ hex_digits 2 control ++ codes " " ++ hex_digits 5 first_border ++ codes " " ++ hex_digits 5 second_border
+text_of (Boot control first_border second_border) = boot_text control first_border second_border
 text_of (Reset cause) = codes "RST " ++ hex_digits 2 cause
 text_of Dead = codes "DEAD"
 text_of (Pin port levels) = codes "PIN P" ++ decimal port ++ codes " " ++ letters_of levels

@@ -1,7 +1,7 @@
 ghost use Rattle.std.specs.Prelude.{◌≡◌, ◌+◌, ◌≤◌, ◌++◌};
 ghost use Rattle.arrayvec.specs.ArrayVec.{array_vec_len};
 ghost use Rattle.trace_print.specs.Levels.{letters_of};
-ghost use Rattle.trace_print.specs.Lines.{IsPrintable, line_of, text_of};
+ghost use Rattle.trace_print.specs.Lines.{IsPrintable, boot_text, line_of, text_of};
 
 use crate::items::TraceItem;
 use crate::levels::letter;
@@ -49,7 +49,7 @@ fn push_item(line: &mut Line, item: &TraceItem)
 /// Appends the end of a boot.
 fn push_boot(line: &mut Line, control: u8, first_border: u32, second_border: u32)
     requires { array_vec_len line.old ≤ 11 }
-    ensures text { line.new.items ≡ line.old.items ++ text_of (TraceItem.Boot control first_border second_border) }
+    ensures text { line.new.items ≡ line.old.items ++ boot_text control first_border second_border }
     ensures len { array_vec_len line.new ≤ 40 }
 {
     push_text(line, b"BOOT ");
