@@ -5,11 +5,11 @@ use Rattle.cpux_decode.specs.declared.forms.Form.{Form}
 use Rattle.cpux_decode.specs.declared.forms.Form.TheVariants.{Reserved, MoveAt, MoveAtPlus, MoveAbsolute, MoveIndexed, MoveToAbsolute, MoveToIndexed, MoveImm, MoveReg, AddrImm, AddrReg, ShiftMany, One, Reti, CallReg, CallIndexed, CallAt, CallAtPlus, CallAbsolute, CallSymbolic, CallImm, PushMany, PopMany, LongOne, LongTwo, Jump, Two}
 use Rattle.cpux_decode.specs.declared.operations.Op1.{Op1}
 use Rattle.cpux_decode.specs.declared.operations.Op2.{Op2}
-use Rattle.cpux_decode.specs.declared.forms.Entry.{Entry}
-use Rattle.cpux_decode.specs.Table.{entry}
+use Rattle.cpux_decode.specs.declared.forms.Shape.{Shape}
+use Rattle.cpux_decode.specs.Table.{shape_of}
 use Rattle.cpux_decode.specs.Operands.{bits, source_place, source_words, destination_place}
 use Rattle.cpux_decode.specs.Instructions.{two_operands, long_two_operands, one_operand, long_one_operand, jump, shift_many, instruction_of, decoded, operand_words, length_of, is_extension, SameFront}
-use Rattle.cpux_decode.proofs.Entries.{field_words, entry_words, entry_words-most, is_long_form, entry-alone, extension_words, long_form-alone}
+use Rattle.cpux_decode.proofs.Shapes.{field_words, shape_words, shape_words-most, is_long_form, shape-alone, extension_words, long_form-alone}
 
 -- ---- operands
 
@@ -155,37 +155,37 @@ field_words-positive form = lit≤ tt
 
 pub length_of-positive : (w0 w1 : ℕ) → 1 ≤ length_of w0 w1
 unfolding length_of
-length_of-positive w0 w1 = omega (arith, (entry_words w0 w1).0, field_words-positive (entry w0 w1).form)
+length_of-positive w0 w1 = omega (arith, (shape_words w0 w1).0, field_words-positive (shape_of w0 w1).form)
 
 pub length_of-extension : (w0 w1 : ℕ) → is_extension w0 ≡ true → 2 ≤ length_of w0 w1
 unfolding length_of
 length_of-extension w0 w1 h = omega (arith, extension_words w0 w1 h)
 
--- the second word counts in an entry only where it belongs to the instruction
-entry_same : (a b : List ℕ) (t : Bool) → is_extension (slice_index a 0) ≡ t →
+-- the second word counts in a shape only where it belongs to the instruction
+shape_same : (a b : List ℕ) (t : Bool) → is_extension (slice_index a 0) ≡ t →
     SameFront (length_of (slice_index a 0) (slice_index a 1)) a b →
-    entry (slice_index a 0) (slice_index a 1) ≡ entry (slice_index a 0) (slice_index b 1)
-entry_same a b true h s =
-    ap (entry (slice_index a 0))
+    shape_of (slice_index a 0) (slice_index a 1) ≡ shape_of (slice_index a 0) (slice_index b 1)
+shape_same a b true h s =
+    ap (shape_of (slice_index a 0))
     (s 1 (omega (arith, length_of-extension (slice_index a 0) (slice_index a 1) h)))
-entry_same a b false h s = entry-alone (slice_index a 0) (slice_index a 1) (slice_index b 1) h
+shape_same a b false h s = shape-alone (slice_index a 0) (slice_index a 1) (slice_index b 1) h
 
 own_words : (a b : List ℕ) → SameFront (length_of (slice_index a 0) (slice_index a 1)) a b →
     SameFront
-    (field_words (entry (slice_index a 0) (slice_index a 1)).form + operand_words
-    (entry (slice_index a 0) (slice_index a 1)).form (slice_index a 0) (slice_index a 1)) a b
+    (field_words (shape_of (slice_index a 0) (slice_index a 1)).form + operand_words
+    (shape_of (slice_index a 0) (slice_index a 1)).form (slice_index a 0) (slice_index a 1)) a b
 unfolding length_of
-own_words a b s k h = s k (omega (arith, (entry_words (slice_index a 0) (slice_index a 1)).0))
+own_words a b s k h = s k (omega (arith, (shape_words (slice_index a 0) (slice_index a 1)).0))
 
 pub decoded-front : (a b : List ℕ) → SameFront (length_of (slice_index a 0) (slice_index a 1)) a b →
     decoded b ≡ decoded a
 unfolding decoded
 decoded-front a b s =
     let e = s 0 (omega (arith, length_of-positive (slice_index a 0) (slice_index a 1))) in
-    let f = entry_same a b (is_extension (slice_index a 0)) refl s in
-    ap (λ w. instruction_of (entry w (slice_index b 1)).form b) (sym e)
-    ∙ ap (λ (x : Entry). instruction_of x.form b) (sym f)
-    ∙ sym (instruction_same (entry (slice_index a 0) (slice_index a 1)).form a b (own_words a b s))
+    let f = shape_same a b (is_extension (slice_index a 0)) refl s in
+    ap (λ w. instruction_of (shape_of w (slice_index b 1)).form b) (sym e)
+    ∙ ap (λ (x : Shape). instruction_of x.form b) (sym f)
+    ∙ sym (instruction_same (shape_of (slice_index a 0) (slice_index a 1)).form a b (own_words a b s))
 
 operand_words-alone : (form : Form) (w0 w1 w2 : ℕ) → is_long_form form ≡ false →
     operand_words form w0 w1 ≡ operand_words form w0 w2
@@ -197,12 +197,12 @@ operand_words-alone form w0 w1 w2 h = refl
 pub length_of-alone : (w0 w1 w2 : ℕ) → is_extension w0 ≡ false → length_of w0 w2 ≡ length_of w0 w1
 unfolding length_of
 length_of-alone w0 w1 w2 h =
-    ap (λ (e : Entry). e.words + operand_words e.form w0 w2) (entry-alone w0 w2 w1 h)
-    ∙ ap (λ n. (entry w0 w1).words + n)
-    (operand_words-alone (entry w0 w1).form w0 w2 w1 (long_form-alone w0 w1 h))
+    ap (λ (e : Shape). e.words + operand_words e.form w0 w2) (shape-alone w0 w2 w1 h)
+    ∙ ap (λ n. (shape_of w0 w1).words + n)
+    (operand_words-alone (shape_of w0 w1).form w0 w2 w1 (long_form-alone w0 w1 h))
 
 -- ---- as contracts take them
 
-pub ruleset lengths = (entry_words-most, length_of-positive, length_of-extension, length_of-alone)
+pub ruleset lengths = (shape_words-most, length_of-positive, length_of-extension, length_of-alone)
 
 pub ruleset fronts = (decoded-front)

@@ -5,14 +5,14 @@ use Rattle.std.specs.Int.Bits.{bit_and}
 use Rattle.std.proofs.lemmas.Nat.Bits.{and_high_mask, and_pow, bit_at-lt}
 use Rattle.cpux_decode.specs.declared.forms.Form.{Form}
 use Rattle.cpux_decode.specs.declared.forms.Form.TheVariants.{Reserved, One, LongOne, LongTwo, PushMany, PopMany, Jump, Two}
-use Rattle.cpux_decode.specs.declared.forms.Entry.{Entry}
+use Rattle.cpux_decode.specs.declared.forms.Shape.{Shape}
 use Rattle.cpux_decode.specs.declared.operations.Op1.TheVariants.{Rrc, Swpb, Rra, Sxt, Push, Call}
 use Rattle.cpux_decode.specs.declared.operations.Op2.TheVariants.{Mov, Add, Addc, Subc, Sub, Cmp, Dadd, Bit, Bic, Bis, Xor, And}
 use Rattle.cpux_decode.specs.Rows.{Row, lookup}
-use Rattle.cpux_decode.specs.Table.{reserved_rows, ordinary_rows, entry, no_row, reserved_one_operand_rows, reserved_call_rows, reserved_extended_rows, reserved_before_rows, reserved_width_rows, reserved_operand_rows, address_rows, one_operand_rows, call_rows, many_rows, extended_rows, jump_rows, two_operand_rows}
+use Rattle.cpux_decode.specs.Table.{reserved_rows, ordinary_rows, shape_of, no_row, reserved_one_operand_rows, reserved_call_rows, reserved_extended_rows, reserved_before_rows, reserved_width_rows, reserved_operand_rows, address_rows, one_operand_rows, call_rows, many_rows, extended_rows, jump_rows, two_operand_rows}
 use Rattle.cpux_decode.specs.Branches.{every_word, every_pair, operand_rows, long_width_rows, long_rotate_rows, long_word_rows}
 use Rattle.cpux_decode.proofs.Narrow.{Knows, rest, agree, sure, trivial}
-use Rattle.cpux_decode.proofs.OneRow.{lookup-entry}
+use Rattle.cpux_decode.proofs.OneRow.{lookup-shape}
 
 -- what an answer opens to compute which rows are left: the rows of one operand, those behind an extension
 -- word, and all
@@ -28,10 +28,10 @@ unfoldable whole_table : ⊤
 unfolding reserved_rows ordinary_rows reserved_call_rows address_rows call_rows many_rows jump_rows two_operand_rows one_operand_part extended_part
 whole_table = tt
 
-abbrev one_word : Form → Entry
+abbrev one_word : Form → Shape
 one_word form = record { form = form; words = 1 }
 
-abbrev two_words : Form → Entry
+abbrev two_words : Form → Shape
 two_words form = record { form = form; words = 2 }
 
 -- the bits of a word from bit k on, as a number
@@ -41,138 +41,138 @@ high k v = (0x10000 - 2 ^ k, v * 2 ^ k) ∷ []
 upper : (k w v : ℕ) → k ≤ 16 → w < 0x10000 → w / 2 ^ k ≡ v → Knows (high k v) w
 upper k w v a h e = (and_high_mask 16 k a w h ∙ ap (λ n. n * 2 ^ k) e, tt)
 
-abbrev all_rows : List (Row Entry)
+abbrev all_rows : List (Row Shape)
 all_rows = reserved_rows ++ ordinary_rows
 
-abbrev one_rows : List (Row Entry)
+abbrev one_rows : List (Row Shape)
 one_rows = reserved_one_operand_rows ++ one_operand_rows
 
-abbrev long_rows : List (Row Entry)
+abbrev long_rows : List (Row Shape)
 long_rows = reserved_extended_rows ++ extended_rows
 
 module _ (w0 w1 : ℕ) (fits : w0 < 0x10000) where
   -- what the table says where the upper bits leave these rows, or one row
-  entry-lookup : (k v : ℕ) (left : List (Row Entry)) → k ≤ 16 →
+  shape-lookup : (k v : ℕ) (left : List (Row Shape)) → k ≤ 16 →
       rest (high k v) [] all_rows ≡ rest (high k v) [] left → w0 / 2 ^ k ≡ v →
-      entry w0 w1 ≡ lookup no_row left w0 w1
-  entry-lookup k v left a s e =
-      sym (lookup-entry w0 w1) ∙ agree no_row (high k v) [] all_rows left w0 w1 s (upper k w0 v a fits e) tt
+      shape_of w0 w1 ≡ lookup no_row left w0 w1
+  shape-lookup k v left a s e =
+      sym (lookup-shape w0 w1) ∙ agree no_row (high k v) [] all_rows left w0 w1 s (upper k w0 v a fits e) tt
 
-  entry-says : (k v : ℕ) (left : Row Entry) → k ≤ 16 → rest (high k v) [] all_rows ≡ left ∷ [] →
-      trivial left ≡ true → w0 / 2 ^ k ≡ v → entry w0 w1 ≡ left.says
-  entry-says k v left a s t e =
-      sym (lookup-entry w0 w1)
+  shape-says : (k v : ℕ) (left : Row Shape) → k ≤ 16 → rest (high k v) [] all_rows ≡ left ∷ [] →
+      trivial left ≡ true → w0 / 2 ^ k ≡ v → shape_of w0 w1 ≡ left.says
+  shape-says k v left a s t e =
+      sym (lookup-shape w0 w1)
       ∙ sure no_row (high k v) [] all_rows left w0 w1 s t (upper k w0 v a fits e) tt
 
   -- ---- the first word by its upper four bits
 
-  pub at_0 : w0 / 0x1000 ≡ 0x0 → entry w0 w1 ≡ lookup no_row address_rows w0 w1
+  pub at_0 : w0 / 0x1000 ≡ 0x0 → shape_of w0 w1 ≡ lookup no_row address_rows w0 w1
   unfolding whole_table
-  at_0 e = entry-lookup 12 0x0 address_rows (lit≤ tt) refl e
+  at_0 e = shape-lookup 12 0x0 address_rows (lit≤ tt) refl e
 
-  pub at_2 : w0 / 0x1000 ≡ 0x2 → entry w0 w1 ≡ one_word Jump
+  pub at_2 : w0 / 0x1000 ≡ 0x2 → shape_of w0 w1 ≡ one_word Jump
   unfolding whole_table
-  at_2 e = entry-says 12 0x2 (every_word Jump) (lit≤ tt) refl refl e
+  at_2 e = shape-says 12 0x2 (every_word Jump) (lit≤ tt) refl refl e
 
-  pub at_3 : w0 / 0x1000 ≡ 0x3 → entry w0 w1 ≡ one_word Jump
+  pub at_3 : w0 / 0x1000 ≡ 0x3 → shape_of w0 w1 ≡ one_word Jump
   unfolding whole_table
-  at_3 e = entry-says 12 0x3 (every_word Jump) (lit≤ tt) refl refl e
+  at_3 e = shape-says 12 0x3 (every_word Jump) (lit≤ tt) refl refl e
 
-  pub at_4 : w0 / 0x1000 ≡ 0x4 → entry w0 w1 ≡ one_word (Two Mov)
+  pub at_4 : w0 / 0x1000 ≡ 0x4 → shape_of w0 w1 ≡ one_word (Two Mov)
   unfolding whole_table
-  at_4 e = entry-says 12 0x4 (every_word (Two Mov)) (lit≤ tt) refl refl e
+  at_4 e = shape-says 12 0x4 (every_word (Two Mov)) (lit≤ tt) refl refl e
 
-  pub at_5 : w0 / 0x1000 ≡ 0x5 → entry w0 w1 ≡ one_word (Two Add)
+  pub at_5 : w0 / 0x1000 ≡ 0x5 → shape_of w0 w1 ≡ one_word (Two Add)
   unfolding whole_table
-  at_5 e = entry-says 12 0x5 (every_word (Two Add)) (lit≤ tt) refl refl e
+  at_5 e = shape-says 12 0x5 (every_word (Two Add)) (lit≤ tt) refl refl e
 
-  pub at_6 : w0 / 0x1000 ≡ 0x6 → entry w0 w1 ≡ one_word (Two Addc)
+  pub at_6 : w0 / 0x1000 ≡ 0x6 → shape_of w0 w1 ≡ one_word (Two Addc)
   unfolding whole_table
-  at_6 e = entry-says 12 0x6 (every_word (Two Addc)) (lit≤ tt) refl refl e
+  at_6 e = shape-says 12 0x6 (every_word (Two Addc)) (lit≤ tt) refl refl e
 
-  pub at_7 : w0 / 0x1000 ≡ 0x7 → entry w0 w1 ≡ one_word (Two Subc)
+  pub at_7 : w0 / 0x1000 ≡ 0x7 → shape_of w0 w1 ≡ one_word (Two Subc)
   unfolding whole_table
-  at_7 e = entry-says 12 0x7 (every_word (Two Subc)) (lit≤ tt) refl refl e
+  at_7 e = shape-says 12 0x7 (every_word (Two Subc)) (lit≤ tt) refl refl e
 
-  pub at_8 : w0 / 0x1000 ≡ 0x8 → entry w0 w1 ≡ one_word (Two Sub)
+  pub at_8 : w0 / 0x1000 ≡ 0x8 → shape_of w0 w1 ≡ one_word (Two Sub)
   unfolding whole_table
-  at_8 e = entry-says 12 0x8 (every_word (Two Sub)) (lit≤ tt) refl refl e
+  at_8 e = shape-says 12 0x8 (every_word (Two Sub)) (lit≤ tt) refl refl e
 
-  pub at_9 : w0 / 0x1000 ≡ 0x9 → entry w0 w1 ≡ one_word (Two Cmp)
+  pub at_9 : w0 / 0x1000 ≡ 0x9 → shape_of w0 w1 ≡ one_word (Two Cmp)
   unfolding whole_table
-  at_9 e = entry-says 12 0x9 (every_word (Two Cmp)) (lit≤ tt) refl refl e
+  at_9 e = shape-says 12 0x9 (every_word (Two Cmp)) (lit≤ tt) refl refl e
 
-  pub at_A : w0 / 0x1000 ≡ 0xA → entry w0 w1 ≡ one_word (Two Dadd)
+  pub at_A : w0 / 0x1000 ≡ 0xA → shape_of w0 w1 ≡ one_word (Two Dadd)
   unfolding whole_table
-  at_A e = entry-says 12 0xA (every_word (Two Dadd)) (lit≤ tt) refl refl e
+  at_A e = shape-says 12 0xA (every_word (Two Dadd)) (lit≤ tt) refl refl e
 
-  pub at_B : w0 / 0x1000 ≡ 0xB → entry w0 w1 ≡ one_word (Two Bit)
+  pub at_B : w0 / 0x1000 ≡ 0xB → shape_of w0 w1 ≡ one_word (Two Bit)
   unfolding whole_table
-  at_B e = entry-says 12 0xB (every_word (Two Bit)) (lit≤ tt) refl refl e
+  at_B e = shape-says 12 0xB (every_word (Two Bit)) (lit≤ tt) refl refl e
 
-  pub at_C : w0 / 0x1000 ≡ 0xC → entry w0 w1 ≡ one_word (Two Bic)
+  pub at_C : w0 / 0x1000 ≡ 0xC → shape_of w0 w1 ≡ one_word (Two Bic)
   unfolding whole_table
-  at_C e = entry-says 12 0xC (every_word (Two Bic)) (lit≤ tt) refl refl e
+  at_C e = shape-says 12 0xC (every_word (Two Bic)) (lit≤ tt) refl refl e
 
-  pub at_D : w0 / 0x1000 ≡ 0xD → entry w0 w1 ≡ one_word (Two Bis)
+  pub at_D : w0 / 0x1000 ≡ 0xD → shape_of w0 w1 ≡ one_word (Two Bis)
   unfolding whole_table
-  at_D e = entry-says 12 0xD (every_word (Two Bis)) (lit≤ tt) refl refl e
+  at_D e = shape-says 12 0xD (every_word (Two Bis)) (lit≤ tt) refl refl e
 
-  pub at_E : w0 / 0x1000 ≡ 0xE → entry w0 w1 ≡ one_word (Two Xor)
+  pub at_E : w0 / 0x1000 ≡ 0xE → shape_of w0 w1 ≡ one_word (Two Xor)
   unfolding whole_table
-  at_E e = entry-says 12 0xE (every_word (Two Xor)) (lit≤ tt) refl refl e
+  at_E e = shape-says 12 0xE (every_word (Two Xor)) (lit≤ tt) refl refl e
 
-  pub at_F : w0 / 0x1000 ≡ 0xF → entry w0 w1 ≡ one_word (Two And)
+  pub at_F : w0 / 0x1000 ≡ 0xF → shape_of w0 w1 ≡ one_word (Two And)
   unfolding whole_table
-  at_F e = entry-says 12 0xF (every_word (Two And)) (lit≤ tt) refl refl e
+  at_F e = shape-says 12 0xF (every_word (Two And)) (lit≤ tt) refl refl e
 
   -- ---- from 1000h on by the upper eight bits
 
-  pub at_10 : w0 / 0x100 ≡ 0x10 → entry w0 w1 ≡ lookup no_row one_rows w0 w1
+  pub at_10 : w0 / 0x100 ≡ 0x10 → shape_of w0 w1 ≡ lookup no_row one_rows w0 w1
   unfolding whole_table
-  at_10 e = entry-lookup 8 0x10 one_rows (lit≤ tt) refl e
+  at_10 e = shape-lookup 8 0x10 one_rows (lit≤ tt) refl e
 
-  pub at_11 : w0 / 0x100 ≡ 0x11 → entry w0 w1 ≡ lookup no_row one_rows w0 w1
+  pub at_11 : w0 / 0x100 ≡ 0x11 → shape_of w0 w1 ≡ lookup no_row one_rows w0 w1
   unfolding whole_table
-  at_11 e = entry-lookup 8 0x11 one_rows (lit≤ tt) refl e
+  at_11 e = shape-lookup 8 0x11 one_rows (lit≤ tt) refl e
 
-  pub at_12 : w0 / 0x100 ≡ 0x12 → entry w0 w1 ≡ lookup no_row one_rows w0 w1
+  pub at_12 : w0 / 0x100 ≡ 0x12 → shape_of w0 w1 ≡ lookup no_row one_rows w0 w1
   unfolding whole_table
-  at_12 e = entry-lookup 8 0x12 one_rows (lit≤ tt) refl e
+  at_12 e = shape-lookup 8 0x12 one_rows (lit≤ tt) refl e
 
-  pub at_13 : w0 / 0x100 ≡ 0x13 → entry w0 w1 ≡ lookup no_row (reserved_call_rows ++ call_rows) w0 w1
+  pub at_13 : w0 / 0x100 ≡ 0x13 → shape_of w0 w1 ≡ lookup no_row (reserved_call_rows ++ call_rows) w0 w1
   unfolding whole_table
-  at_13 e = entry-lookup 8 0x13 (reserved_call_rows ++ call_rows) (lit≤ tt) refl e
+  at_13 e = shape-lookup 8 0x13 (reserved_call_rows ++ call_rows) (lit≤ tt) refl e
 
-  pub at_14 : w0 / 0x100 ≡ 0x14 → entry w0 w1 ≡ one_word PushMany
+  pub at_14 : w0 / 0x100 ≡ 0x14 → shape_of w0 w1 ≡ one_word PushMany
   unfolding whole_table
-  at_14 e = entry-says 8 0x14 (every_word PushMany) (lit≤ tt) refl refl e
+  at_14 e = shape-says 8 0x14 (every_word PushMany) (lit≤ tt) refl refl e
 
-  pub at_15 : w0 / 0x100 ≡ 0x15 → entry w0 w1 ≡ one_word PushMany
+  pub at_15 : w0 / 0x100 ≡ 0x15 → shape_of w0 w1 ≡ one_word PushMany
   unfolding whole_table
-  at_15 e = entry-says 8 0x15 (every_word PushMany) (lit≤ tt) refl refl e
+  at_15 e = shape-says 8 0x15 (every_word PushMany) (lit≤ tt) refl refl e
 
-  pub at_16 : w0 / 0x100 ≡ 0x16 → entry w0 w1 ≡ one_word PopMany
+  pub at_16 : w0 / 0x100 ≡ 0x16 → shape_of w0 w1 ≡ one_word PopMany
   unfolding whole_table
-  at_16 e = entry-says 8 0x16 (every_word PopMany) (lit≤ tt) refl refl e
+  at_16 e = shape-says 8 0x16 (every_word PopMany) (lit≤ tt) refl refl e
 
-  pub at_17 : w0 / 0x100 ≡ 0x17 → entry w0 w1 ≡ one_word PopMany
+  pub at_17 : w0 / 0x100 ≡ 0x17 → shape_of w0 w1 ≡ one_word PopMany
   unfolding whole_table
-  at_17 e = entry-says 8 0x17 (every_word PopMany) (lit≤ tt) refl refl e
+  at_17 e = shape-says 8 0x17 (every_word PopMany) (lit≤ tt) refl refl e
 
-  pub at_extension : w0 / 0x800 ≡ 0x3 → entry w0 w1 ≡ lookup no_row long_rows w0 w1
+  pub at_extension : w0 / 0x800 ≡ 0x3 → shape_of w0 w1 ≡ lookup no_row long_rows w0 w1
   unfolding whole_table
-  at_extension e = entry-lookup 11 0x3 long_rows (lit≤ tt) refl e
+  at_extension e = shape-lookup 11 0x3 long_rows (lit≤ tt) refl e
 
   -- ---- one operand by the upper ten bits
 
-  one-lookup : (v : ℕ) (left : List (Row Entry)) →
+  one-lookup : (v : ℕ) (left : List (Row Shape)) →
       rest (high 6 v) [] one_rows ≡ rest (high 6 v) [] left → w0 / 0x40 ≡ v →
       lookup no_row one_rows w0 w1 ≡ lookup no_row left w0 w1
   one-lookup v left s e =
       agree no_row (high 6 v) [] one_rows left w0 w1 s (upper 6 w0 v (lit≤ tt) fits e) tt
 
-  one-says : (v : ℕ) (left : Row Entry) → rest (high 6 v) [] one_rows ≡ left ∷ [] → trivial left ≡ true →
+  one-says : (v : ℕ) (left : Row Shape) → rest (high 6 v) [] one_rows ≡ left ∷ [] → trivial left ≡ true →
       w0 / 0x40 ≡ v → lookup no_row one_rows w0 w1 ≡ left.says
   one-says v left s t e =
       sure no_row (high 6 v) [] one_rows left w0 w1 s t (upper 6 w0 v (lit≤ tt) fits e) tt
@@ -239,7 +239,7 @@ module _ (w0 w1 : ℕ) (fits : w0 < 0x10000) (is_extension : w0 / 0x800 ≡ 3) (
   extension_known = (upper 11 w0 3 (lit≤ tt) fits is_extension).0
 
   -- the rows of an extension word where the upper bits of the second word leave these, or one
-  long-lookup : (k v : ℕ) (left : List (Row Entry)) → k ≤ 16 →
+  long-lookup : (k v : ℕ) (left : List (Row Shape)) → k ≤ 16 →
       rest extension (high k v) long_rows ≡ rest extension (high k v) left → w1 / 2 ^ k ≡ v →
       lookup no_row long_rows w0 w1 ≡ lookup no_row left w0 w1
   long-lookup k v left a s e =
@@ -351,12 +351,12 @@ bit_6 : (w : ℕ) → (bit_and w 0x40 ≡ 0) ⊎ (bit_and w 0x40 ≡ 0x40)
 bit_6 w = grind (arith, and_pow w 6, bit_at-lt w 6)
 
 -- the same rows are left behind these upper nine bits, with bits 6 of both words
-abbrev SameLeft : ℕ → List (Row Entry) → ℕ → ℕ → Type 0
+abbrev SameLeft : ℕ → List (Row Shape) → ℕ → ℕ → Type 0
 SameLeft v left p q =
     rest ((0xF800, 0x1800) ∷ (0x40, p) ∷ []) ((0xFF80, v * 0x80) ∷ (0x40, q) ∷ []) long_rows
     ≡ rest ((0xF800, 0x1800) ∷ (0x40, p) ∷ []) ((0xFF80, v * 0x80) ∷ (0x40, q) ∷ []) left
 
-same_left : (v : ℕ) (left : List (Row Entry)) (p q : ℕ) → (p ≡ 0) ⊎ (p ≡ 0x40) → (q ≡ 0) ⊎ (q ≡ 0x40) →
+same_left : (v : ℕ) (left : List (Row Shape)) (p q : ℕ) → (p ≡ 0) ⊎ (p ≡ 0x40) → (q ≡ 0) ⊎ (q ≡ 0x40) →
     SameLeft v left 0 0 → SameLeft v left 0 0x40 → SameLeft v left 0x40 0 → SameLeft v left 0x40 0x40 →
     SameLeft v left p q
 same_left v left p q (inl e) (inl f) a b c d = rw (e, f) a
@@ -365,7 +365,7 @@ same_left v left p q (inr e) (inl f) a b c d = rw (e, f) c
 same_left v left p q (inr e) (inr f) a b c d = rw (e, f) d
 
 module _ (w0 w1 : ℕ) (fits : w0 < 0x10000) (is_extension : w0 / 0x800 ≡ 3) (next_fits : w1 < 0x10000) where
-  long-lookup_bits : (v : ℕ) (left : List (Row Entry)) →
+  long-lookup_bits : (v : ℕ) (left : List (Row Shape)) →
       SameLeft v left 0 0 → SameLeft v left 0 0x40 → SameLeft v left 0x40 0 → SameLeft v left 0x40 0x40 →
       w1 / 0x80 ≡ v → lookup no_row long_rows w0 w1 ≡ lookup no_row left w0 w1
   long-lookup_bits v left a b c d e =

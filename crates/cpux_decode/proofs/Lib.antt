@@ -3,7 +3,7 @@ mod Splits
 mod OneRow
 mod Groups
 mod Lookups
-mod Entries
+mod Shapes
 mod Fronts
 mod Reserved
 mod ReasonsLemmas

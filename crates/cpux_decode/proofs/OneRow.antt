@@ -1,8 +1,8 @@
 -- Each pair of words meets one row of the table, and what the table says of it is what the first row says that it meets.
 use Rattle.std.proofs.Common.{◌≡◌, ℕ, zero, suc, length, Bool, true, false, cond, List, [], ◌∷◌, ◌++◌, refl, ap, ◌∙◌}
-use Rattle.cpux_decode.specs.declared.forms.Entry.{Entry}
+use Rattle.cpux_decode.specs.declared.forms.Shape.{Shape}
 use Rattle.cpux_decode.specs.Rows.{Row, meets, kept_row, rows_met, or_else, first_says, lookup}
-use Rattle.cpux_decode.specs.Table.{reserved_rows, ordinary_rows, table_rows, entry, no_row, EachPairMeetsOneRow, address_rows, one_operand_rows, reserved_one_operand_rows, call_rows, reserved_call_rows, many_rows, extended_rows, reserved_extended_rows, reserved_before_rows, reserved_width_rows, reserved_operand_rows, jump_rows, two_operand_rows}
+use Rattle.cpux_decode.specs.Table.{reserved_rows, ordinary_rows, table_rows, shape_of, no_row, EachPairMeetsOneRow, address_rows, one_operand_rows, reserved_one_operand_rows, call_rows, reserved_call_rows, many_rows, extended_rows, reserved_extended_rows, reserved_before_rows, reserved_width_rows, reserved_operand_rows, jump_rows, two_operand_rows}
 use Rattle.cpux_decode.proofs.Narrow.{trivial, trivial_meets}
 use Rattle.cpux_decode.proofs.Splits.{passes, passes_next, passes-tells, places}
 
@@ -70,14 +70,14 @@ first_says-or_else e [] o = refl
 first_says-or_else e (row ∷ r) o = refl
 
 -- the one row that a pair meets is the first that it meets
-pub lookup-entry_of : (e : Entry) (w0 w1 : ℕ) →
+pub lookup-shape_of : (e : Shape) (w0 w1 : ℕ) →
     lookup e (reserved_rows ++ ordinary_rows) w0 w1 ≡ first_says e (table_rows w0 w1)
-lookup-entry_of e w0 w1 =
+lookup-shape_of e w0 w1 =
     lookup-append e reserved_rows ordinary_rows w0 w1
-    ∙ ap (λ (x : Entry). lookup x reserved_rows w0 w1) (lookup-met e ordinary_rows w0 w1)
+    ∙ ap (λ (x : Shape). lookup x reserved_rows w0 w1) (lookup-met e ordinary_rows w0 w1)
     ∙ lookup-met (first_says e (rows_met ordinary_rows w0 w1)) reserved_rows w0 w1
     ∙ first_says-or_else e (rows_met reserved_rows w0 w1) (rows_met ordinary_rows w0 w1)
 
-pub lookup-entry : (w0 w1 : ℕ) → lookup no_row (reserved_rows ++ ordinary_rows) w0 w1 ≡ entry w0 w1
-unfolding entry
-lookup-entry w0 w1 = lookup-entry_of no_row w0 w1
+pub lookup-shape : (w0 w1 : ℕ) → lookup no_row (reserved_rows ++ ordinary_rows) w0 w1 ≡ shape_of w0 w1
+unfolding shape_of
+lookup-shape w0 w1 = lookup-shape_of no_row w0 w1

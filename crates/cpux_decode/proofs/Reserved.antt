@@ -4,9 +4,9 @@ use Rattle.std.specs.Prelude.{◌↔◌, IsTrue}
 use Rattle.cpux_decode.specs.declared.forms.Form.{Form}
 use Rattle.cpux_decode.specs.declared.forms.Form.TheVariants.{Reserved}
 use Rattle.cpux_decode.specs.declared.instructions.Decoded.TheVariants as made
-use Rattle.cpux_decode.specs.Table.{entry, is_reserved}
+use Rattle.cpux_decode.specs.Table.{shape_of, is_reserved}
 use Rattle.cpux_decode.specs.Instructions.{two_operands, long_two_operands, one_operand, long_one_operand, jump, shift_many, instruction_of, decoded}
-use Rattle.cpux_decode.proofs.Entries.{is_reserved_form, reserved_form-entry}
+use Rattle.cpux_decode.proofs.Shapes.{is_reserved_form, reserved_form-shape}
 
 reserved_instruction : (form : Form) (words : List ℕ) → is_reserved_form form ≡ true →
     instruction_of form words ≡ made.Reserved
@@ -24,9 +24,9 @@ pub decoded-reserved : (words : List ℕ) →
     (decoded words ≡ made.Reserved) ↔ IsTrue (is_reserved (slice_index words 0) (slice_index words 1))
 unfolding decoded
 decoded-reserved words =
-    let e = reserved_form-entry (slice_index words 0) (slice_index words 1) in (
-      λ h. sym e ∙ reserved_form (entry (slice_index words 0) (slice_index words 1)).form words h,
-      λ r. reserved_instruction (entry (slice_index words 0) (slice_index words 1)).form words (e ∙ r),
+    let e = reserved_form-shape (slice_index words 0) (slice_index words 1) in (
+      λ h. sym e ∙ reserved_form (shape_of (slice_index words 0) (slice_index words 1)).form words h,
+      λ r. reserved_instruction (shape_of (slice_index words 0) (slice_index words 1)).form words (e ∙ r),
     )
 
 -- as contracts take it

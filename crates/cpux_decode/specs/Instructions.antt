@@ -1,7 +1,11 @@
 -- What the words of an instruction mean, and how many they are.
-use Rattle.std.specs.Prelude.{◌≡◌, ◌<◌, ℕ, pos, negsuc, ◌+◌, ◌-◌, Bool, true, false, nat_lt, ◌==◌, ◌&&◌, not, if◌then◌else◌, List, slice_index}
+use Rattle.std.specs.Prelude.{◌≡◌, ◌<◌, ℕ, ◌+◌, Bool, true, false, ◌==◌, ◌&&◌, not, if◌then◌else◌, IsTrue, List, slice_index}
 use Rattle.chip_words.specs.declared.sizes.Size.{Size}
 use Rattle.chip_words.specs.declared.sizes.Size.TheVariants.{Word, Addr}
+use Rattle.chip_words.specs.Bits.{has_bit}
+use Rattle.chip_words.specs.Registers.{PC}
+use Rattle.chip_words.specs.Signed.{signed_value}
+use Rattle.chip_words.specs.Sizes.{span}
 use Rattle.cpux_decode.specs.declared.forms.Form.{Form}
 use Rattle.cpux_decode.specs.declared.forms.Form.TheVariants.{Reserved, MoveAt, MoveAtPlus, MoveAbsolute, MoveIndexed, MoveToAbsolute, MoveToIndexed, MoveImm, MoveReg, AddrImm, AddrReg, ShiftMany, One, Reti, CallReg, CallIndexed, CallAt, CallAtPlus, CallAbsolute, CallSymbolic, CallImm, PushMany, PopMany, LongOne, LongTwo, Jump, Two}
 use Rattle.cpux_decode.specs.declared.places.Place.TheVariants.{Reg, Far, Absolute, At, AtPlus, Imm}
@@ -12,8 +16,8 @@ use Rattle.cpux_decode.specs.declared.operations.OpS.{OpS}
 use Rattle.cpux_decode.specs.declared.operations.OpS.TheVariants as shift
 use Rattle.cpux_decode.specs.declared.instructions.Decoded.{Decoded}
 use Rattle.cpux_decode.specs.declared.instructions.Decoded.TheVariants as made
-use Rattle.cpux_decode.specs.Operands.{bits, bit, wide, sign_extended, source_place, source_words, destination_place, size_of, long_size_of, once, rep_of}
-use Rattle.cpux_decode.specs.Table.{entry}
+use Rattle.cpux_decode.specs.Operands.{bits, wide, sign_extended, source_place, source_words, destination_place, size_of, long_size_of, once, rep_of}
+use Rattle.cpux_decode.specs.Table.{shape_of, is_reserved}
 
 -- two operands: the operation in bits 15:12, the source register in 11:8, Ad 7, B/W 6, As 5:4, the
 -- destination register in 3:0. The word of the source stands before that of the destination.
@@ -67,9 +71,7 @@ long_one_operand op words =
 
 -- a jump: the condition in bits 12:10, and in 9:0 a signed distance in words
 unfoldable pub jump : ℕ → Decoded
-jump word =
-    let distance = bits word 9 0 in
-    made.Jump (bits word 12 10) (if nat_lt distance 512 then pos distance else negsuc (1023 - distance))
+jump word = made.Jump (bits word 12 10) (signed_value 0x400 (bits word 9 0))
 
 abbrev pub shift_operation : ℕ → OpS
 shift_operation n =
@@ -82,12 +84,12 @@ shift_operation n =
 -- the register in 3:0
 unfoldable pub shift_many : ℕ → Decoded
 shift_many word =
-    made.Shift (shift_operation (bits word 9 8)) (if bit word 4 then Word else Addr)
+    made.Shift (shift_operation (bits word 9 8)) (if has_bit word 4 then Word else Addr)
     (bits word 11 10 + 1) (bits word 3 0)
 
 -- PUSHM and POPM: .W in bit 8, the count less one in bits 7:4, the register in 3:0
 abbrev pub many_size : ℕ → Size
-many_size word = if bit word 8 then Word else Addr
+many_size word = if has_bit word 8 then Word else Addr
 
 abbrev pub many_count : ℕ → ℕ
 many_count word = bits word 7 4 + 1
@@ -95,6 +97,9 @@ many_count word = bits word 7 4 + 1
 -- the first word
 abbrev pub first_word : List ℕ → ℕ
 first_word words = slice_index words 0
+
+abbrev pub second_word : List ℕ → ℕ
+second_word words = slice_index words 1
 
 -- of an address instruction the source field, bits 11:8
 abbrev pub source_field : List ℕ → ℕ
@@ -106,15 +111,15 @@ destination_field words = bits (first_word words) 3 0
 
 -- 20 bits with 19:16 in the source field, and the others in the second word
 abbrev pub source_value : List ℕ → ℕ
-source_value words = wide (source_field words) (slice_index words 1)
+source_value words = wide (source_field words) (second_word words)
 
 -- 20 bits with 19:16 in the destination field
 abbrev pub destination_value : List ℕ → ℕ
-destination_value words = wide (destination_field words) (slice_index words 1)
+destination_value words = wide (destination_field words) (second_word words)
 
 -- the second word as a signed index
 abbrev pub signed_index : List ℕ → ℕ
-signed_index words = sign_extended (slice_index words 1)
+signed_index words = sign_extended (span Word) (span Addr) (second_word words)
 
 -- an instruction of this form with the fields of its words
 unfoldable pub instruction_of : Form → List ℕ → Decoded
@@ -122,9 +127,11 @@ instruction_of Reserved words = made.Reserved
 instruction_of MoveAt words = made.Move (At (source_field words)) (Reg (destination_field words))
 instruction_of MoveAtPlus words = made.Move (AtPlus (source_field words)) (Reg (destination_field words))
 instruction_of MoveAbsolute words = made.Move (Absolute (source_value words)) (Reg (destination_field words))
-instruction_of MoveIndexed words = made.Move (Far (source_field words) (signed_index words)) (Reg (destination_field words))
+instruction_of MoveIndexed words =
+    made.Move (Far (source_field words) (signed_index words)) (Reg (destination_field words))
 instruction_of MoveToAbsolute words = made.Move (Reg (source_field words)) (Absolute (destination_value words))
-instruction_of MoveToIndexed words = made.Move (Reg (source_field words)) (Far (destination_field words) (signed_index words))
+instruction_of MoveToIndexed words =
+    made.Move (Reg (source_field words)) (Far (destination_field words) (signed_index words))
 instruction_of MoveImm words = made.Move (Imm (source_value words)) (Reg (destination_field words))
 instruction_of MoveReg words = made.Move (Reg (source_field words)) (Reg (destination_field words))
 instruction_of (AddrImm op) words = made.Addr op (Imm (source_value words)) (destination_field words)
@@ -137,7 +144,7 @@ instruction_of CallIndexed words = made.CallA (Far (destination_field words) (si
 instruction_of CallAt words = made.CallA (At (destination_field words))
 instruction_of CallAtPlus words = made.CallA (AtPlus (destination_field words))
 instruction_of CallAbsolute words = made.CallA (Absolute (destination_value words))
-instruction_of CallSymbolic words = made.CallA (Far 0 (destination_value words))
+instruction_of CallSymbolic words = made.CallA (Far PC (destination_value words))
 instruction_of CallImm words = made.CallA (Imm (destination_value words))
 instruction_of PushMany words =
     made.PushMany (many_size (first_word words)) (many_count (first_word words)) (destination_field words)
@@ -154,7 +161,11 @@ is_extension word = bits word 15 11 == 3
 
 -- the instruction that some words begin with: the table is looked up with the first two
 unfoldable pub decoded : List ℕ → Decoded
-decoded words = instruction_of (entry (slice_index words 0) (slice_index words 1)).form words
+decoded words = instruction_of (shape_of (first_word words) (second_word words)).form words
+
+-- their first two meet a reserved row of the table
+abbrev pub IsReserved : List ℕ → Type 0
+IsReserved words = IsTrue (is_reserved (first_word words) (second_word words))
 
 -- the words of the operands by their addressing modes
 unfoldable pub operand_words : Form → ℕ → ℕ → ℕ
@@ -166,7 +177,7 @@ operand_words form w0 w1 = 0
 
 -- how many words belong to the instruction that begins with these two
 unfoldable pub length_of : ℕ → ℕ → ℕ
-length_of w0 w1 = (entry w0 w1).words + operand_words (entry w0 w1).form w0 w1
+length_of w0 w1 = (shape_of w0 w1).words + operand_words (shape_of w0 w1).form w0 w1
 
 -- two lists begin with the same words, as many as this
 abbrev pub SameFront : ℕ → List ℕ → List ℕ → Type 0

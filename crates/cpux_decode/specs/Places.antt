@@ -1,5 +1,6 @@
 -- What kind of place an operand has.
 use Rattle.std.specs.Prelude.{Bool, true, false, ◌==◌}
+use Rattle.chip_words.specs.Registers.{PC}
 use Rattle.cpux_decode.specs.declared.places.Place.{Place}
 use Rattle.cpux_decode.specs.declared.places.Place.TheVariants.{Reg, Const, Near, Far, Absolute, At, AtPlus}
 
@@ -13,7 +14,7 @@ is_memory (AtPlus r) = true
 is_memory place = false
 
 unfoldable pub is_pc : Place → Bool
-is_pc (Reg r) = r == 0
+is_pc (Reg r) = r == PC
 is_pc place = false
 
 unfoldable pub is_register : Place → Bool

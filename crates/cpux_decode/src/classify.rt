@@ -1,9 +1,9 @@
 ghost use Rattle.std.specs.Prelude.{◌≡◌, ℕ, ◌+◌, ◌/◌, ◌≤◌, ◌++◌};
 ghost use Rattle.cpux_decode.specs.Branches.{operand_rows, long_operand_rows, long_width_rows, long_rotate_rows, long_word_rows};
 ghost use Rattle.cpux_decode.specs.Rows.{lookup};
-ghost use Rattle.cpux_decode.specs.Table.{address_rows, one_operand_rows, call_rows, extended_rows, reserved_one_operand_rows, reserved_call_rows, reserved_extended_rows, entry, no_row};
+ghost use Rattle.cpux_decode.specs.Table.{address_rows, one_operand_rows, call_rows, extended_rows, reserved_one_operand_rows, reserved_call_rows, reserved_extended_rows, shape_of, no_row};
 
-use crate::forms::{Entry, Form};
+use crate::forms::{Form, Shape};
 use crate::operations::{Op1, Op2, OpA};
 
 /// Bit A/L of an extension word, which gives the width together with bit B/W.
@@ -13,8 +13,8 @@ const B_W: u16 = 0x40;
 
 /// What the table says of the first two words.
 #[tactic(auto, using(crate::proofs::Groups::first_nibbles))]
-pub fn classify(w0: u16, w1: u16) -> Entry
-    ensures { result ≡ entry w0 w1 }
+pub fn classify(w0: u16, w1: u16) -> Shape
+    ensures { result ≡ shape_of w0 w1 }
 {
     match w0 >> 12 {
         0x0 => address(w0, w1),
@@ -36,22 +36,22 @@ pub fn classify(w0: u16, w1: u16) -> Entry
 }
 
 /// A form of one word besides those of addressing modes.
-fn alone(form: Form) -> Entry
+fn alone(form: Form) -> Shape
     ensures { result ≡ record { form = form; words = 1 } }
 {
-    Entry { form, words: 1 }
+    Shape { form, words: 1 }
 }
 
 /// A form of two words besides those of addressing modes.
-fn with_word(form: Form) -> Entry
+fn with_word(form: Form) -> Shape
     ensures { result ≡ record { form = form; words = 2 } }
 {
-    Entry { form, words: 2 }
+    Shape { form, words: 2 }
 }
 
 /// Address instructions and the shifts of several places.
 #[tactic(auto, unfolding(crate::specs::Table::address_rows))]
-fn address(w0: u16, w1: u16) -> Entry
+fn address(w0: u16, w1: u16) -> Shape
     requires { w0 / 0x1000 ≡ 0 }
     ensures { result ≡ lookup no_row address_rows w0 w1 }
 {
@@ -77,9 +77,9 @@ fn address(w0: u16, w1: u16) -> Entry
 
 /// The words from 1000h to 1FFFh.
 #[tactic(auto, using(crate::proofs::Groups::second_nibbles))]
-fn from_1000(w0: u16, w1: u16) -> Entry
+fn from_1000(w0: u16, w1: u16) -> Shape
     requires { w0 / 0x1000 ≡ 1 }
-    ensures { result ≡ entry w0 w1 }
+    ensures { result ≡ shape_of w0 w1 }
 {
     match w0 >> 8 {
         0x10 | 0x11 | 0x12 => one_operand(w0, w1),
@@ -92,7 +92,7 @@ fn from_1000(w0: u16, w1: u16) -> Entry
 
 /// Operations of one operand.
 #[tactic(auto, using(crate::proofs::Groups::one_operand_prefixes))]
-fn one_operand(w0: u16, w1: u16) -> Entry
+fn one_operand(w0: u16, w1: u16) -> Shape
     requires low { 0x10 ≤ w0 / 0x100 }
     requires high { w0 / 0x100 ≤ 0x12 }
     ensures { result ≡ lookup no_row (reserved_one_operand_rows ++ one_operand_rows) w0 w1 }
@@ -110,24 +110,26 @@ fn one_operand(w0: u16, w1: u16) -> Entry
     }
 }
 
-/// Reserved on R3, on R2 with As 10 or 11 and on an immediate, and else this entry.
-fn unless_unfit(word: u16, entry: Entry) -> Entry
-    ensures alone { (w1 : ℕ) → entry.words ≡ 1 → result ≡ lookup no_row (operand_rows entry.form) word w1 }
-    ensures behind { (w0 : ℕ) → entry.words ≡ 2 → result ≡ lookup no_row (long_operand_rows entry.form) w0 word }
+/// Reserved on R3, on R2 with As 10 or 11 and on an immediate, and else this shape.
+fn unless_unfit(word: u16, shape: Shape) -> Shape
+    ensures alone { (w1 : ℕ) → shape.words ≡ 1 →
+        result ≡ lookup no_row (operand_rows shape.form) word w1 }
+    ensures behind { (w0 : ℕ) → shape.words ≡ 2 →
+        result ≡ lookup no_row (long_operand_rows shape.form) w0 word }
 {
     if word & 0x0F == 0x03 || word & 0x2F == 0x22 || word & 0x3F == 0x30 {
-        Entry {
+        Shape {
             form: Form::Reserved,
-            words: entry.words,
+            words: shape.words,
         }
     } else {
-        entry
+        shape
     }
 }
 
 /// RETI and CALLA.
 #[tactic(auto, unfolding(crate::specs::Table::call_rows, crate::specs::Table::reserved_call_rows))]
-fn call(w0: u16, w1: u16) -> Entry
+fn call(w0: u16, w1: u16) -> Shape
     requires { w0 / 0x100 ≡ 0x13 }
     ensures { result ≡ lookup no_row (reserved_call_rows ++ call_rows) w0 w1 }
 {
@@ -146,7 +148,7 @@ fn call(w0: u16, w1: u16) -> Entry
 
 /// An extension word and the word behind it.
 #[tactic(auto, using(crate::proofs::Groups::long_nibbles))]
-fn extended(w0: u16, w1: u16) -> Entry
+fn extended(w0: u16, w1: u16) -> Shape
     requires { w0 / 0x800 ≡ 3 }
     ensures { result ≡ lookup no_row (reserved_extended_rows ++ extended_rows) w0 w1 }
 {
@@ -169,7 +171,7 @@ fn extended(w0: u16, w1: u16) -> Entry
 }
 
 /// Behind an extension word: reserved with A/L 0 and B/W 0, and else this form.
-fn unless_no_width(w0: u16, w1: u16, form: Form) -> Entry
+fn unless_no_width(w0: u16, w1: u16, form: Form) -> Shape
     ensures { result ≡ lookup no_row (long_width_rows form) w0 w1 }
 {
     if w0 & A_L == 0 && w1 & B_W == 0 {
@@ -181,7 +183,7 @@ fn unless_no_width(w0: u16, w1: u16, form: Form) -> Entry
 
 /// An operation of one operand behind an extension word.
 #[tactic(auto, using(crate::proofs::Groups::long_one_operand_prefixes))]
-fn extended_one(w0: u16, w1: u16) -> Entry
+fn extended_one(w0: u16, w1: u16) -> Shape
     requires first { w0 / 0x800 ≡ 3 }
     requires next { w1 / 0x1000 ≡ 1 }
     ensures { result ≡ lookup no_row (reserved_extended_rows ++ extended_rows) w0 w1 }
@@ -197,7 +199,7 @@ fn extended_one(w0: u16, w1: u16) -> Entry
 }
 
 /// RRC and RRA behind an extension word.
-fn extended_rotate(w0: u16, w1: u16, op: Op1) -> Entry
+fn extended_rotate(w0: u16, w1: u16, op: Op1) -> Shape
     ensures { result ≡ lookup no_row (long_rotate_rows (Form.LongOne op)) w0 w1 }
 {
     if w0 & A_L == 0 && w1 & B_W == 0 {
@@ -208,7 +210,7 @@ fn extended_rotate(w0: u16, w1: u16, op: Op1) -> Entry
 }
 
 /// SWPB and SXT behind an extension word, which have one width alone.
-fn extended_word(w0: u16, w1: u16, op: Op1) -> Entry
+fn extended_word(w0: u16, w1: u16, op: Op1) -> Shape
     ensures { result ≡ lookup no_row (long_word_rows (Form.LongOne op)) w0 w1 }
 {
     if w0 & A_L == 0 || w1 & B_W == B_W {

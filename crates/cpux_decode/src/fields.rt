@@ -6,11 +6,11 @@ use crate::forms::Form;
 use crate::instructions::Decoded;
 use crate::operands::{
     destination, destination_mode, field_3_0, field_7_4, field_10_7, field_11_8, is_set, long_size,
-    once, rep, sign_extended, size, source, source_mode, source_words, wide,
+    once, rep, signed_index, size, source, source_mode, source_words, wide,
 };
 use crate::operations::{Op1, Op2, OpS};
 use crate::places::Place;
-use chip_words::Size;
+use chip_words::{PC, Size};
 
 /// The instruction of a form, with the fields of its words.
 #[tactic(auto, unfolding(crate::specs::Instructions::instruction_of))]
@@ -36,7 +36,7 @@ pub fn instruction(form: Form, words: [u16; 4]) -> Decoded
             to: Place::Reg(d),
         },
         Form::MoveIndexed => Decoded::Move {
-            from: Place::Far(s, sign_extended(x)),
+            from: Place::Far(s, signed_index(x)),
             to: Place::Reg(d),
         },
         Form::MoveToAbsolute => Decoded::Move {
@@ -45,7 +45,7 @@ pub fn instruction(form: Form, words: [u16; 4]) -> Decoded
         },
         Form::MoveToIndexed => Decoded::Move {
             from: Place::Reg(s),
-            to: Place::Far(d, sign_extended(x)),
+            to: Place::Far(d, signed_index(x)),
         },
         Form::MoveImm => Decoded::Move {
             from: Place::Imm(wide(s, x)),
@@ -70,7 +70,7 @@ pub fn instruction(form: Form, words: [u16; 4]) -> Decoded
         Form::Reti => Decoded::Reti,
         Form::CallReg => Decoded::CallA { to: Place::Reg(d) },
         Form::CallIndexed => Decoded::CallA {
-            to: Place::Far(d, sign_extended(x)),
+            to: Place::Far(d, signed_index(x)),
         },
         Form::CallAt => Decoded::CallA { to: Place::At(d) },
         Form::CallAtPlus => Decoded::CallA {
@@ -80,7 +80,7 @@ pub fn instruction(form: Form, words: [u16; 4]) -> Decoded
             to: Place::Absolute(wide(d, x)),
         },
         Form::CallSymbolic => Decoded::CallA {
-            to: Place::Far(0, wide(d, x)),
+            to: Place::Far(PC, wide(d, x)),
         },
         Form::CallImm => Decoded::CallA {
             to: Place::Imm(wide(d, x)),

@@ -58,7 +58,7 @@ pub enum Form {
 
 /// What the table says of a pair of words.
 #[derive(Clone, Copy)]
-pub struct Entry {
+pub struct Shape {
     pub form: Form,
     /// The words that the instruction has whatever its addressing modes are, 1 or 2.
     pub words: u8,

@@ -1,10 +1,9 @@
 //! The instruction words of the processor: what a word means, and how many words belong to it.
 #![tactic(auto)]
 
-ghost use Rattle.std.specs.Prelude.{◌≡◌, ◌≤◌, ◌↔◌, ℕ, List, IsTrue, false, slice_index, true};
-ghost use Rattle.cpux_decode.specs.Instructions.{decoded, is_extension as is_extension_word, length_of, operand_words as operand_words_of, SameFront};
+ghost use Rattle.std.specs.Prelude.{◌≡◌, ◌≤◌, ◌↔◌, ℕ, List, false, true};
+ghost use Rattle.cpux_decode.specs.Instructions.{IsReserved, SameFront, decoded, first_word, is_extension as is_extension_word, length_of, operand_words as operand_words_of, second_word};
 ghost use Rattle.cpux_decode.specs.Ranges.{IsInRange};
-ghost use Rattle.cpux_decode.specs.Table.{is_reserved};
 
 mod classify;
 mod fields;
@@ -15,12 +14,13 @@ mod operands;
 mod operations;
 mod places;
 
-pub use chip_words::Size;
+pub use chip_words::{CG, PC, SP, SR, Size};
 use classify::classify;
 use fields::instruction;
-pub use forms::{Entry, Form};
+pub use forms::{Form, Shape};
 pub use instructions::{Count, Decoded, Rep};
 pub use laws::{each_pair_meets_one_row, reserved_for_reasons};
+pub use operands::sign_extended;
 use operands::{destination_mode, field_3_0, field_11_8, source_mode, source_words};
 pub use operations::{Op1, Op2, OpA, OpS};
 pub use places::Place;
@@ -44,8 +44,8 @@ pub fn length(w0: u16, w1: u16) -> u32
     ensures alone { is_extension_word w0 ≡ false → (other : ℕ) → length_of w0 other ≡ result }
     ensures extended { is_extension_word w0 ≡ true → 2 ≤ result }
 {
-    let entry = classify(w0, w1);
-    entry.words as u32 + operand_words(entry.form, w0, w1) as u32
+    let shape = classify(w0, w1);
+    shape.words as u32 + operand_words(shape.form, w0, w1) as u32
 }
 
 /// The words of the operands by their addressing modes.
@@ -70,11 +70,11 @@ pub fn decode(words: [u16; 4]) -> Decoded
     ensures range { IsInRange result }
 
     // Reserved exactly where the first two words meet a reserved row of the table.
-    ensures reserved { (result ≡ Decoded.Reserved) ↔ IsTrue (is_reserved (slice_index words 0) (slice_index words 1)) }
+    ensures reserved { (result ≡ Decoded.Reserved) ↔ IsReserved words }
 
     // Words past the length don't count.
     ensures front { (others : List ℕ) →
-        SameFront (length_of (slice_index words 0) (slice_index words 1)) words others →
+        SameFront (length_of (first_word words) (second_word words)) words others →
         decoded others ≡ result }
 {
     instruction(classify(words[0], words[1]).form, words)

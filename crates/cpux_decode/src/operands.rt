@@ -1,10 +1,20 @@
 ghost use Rattle.std.specs.Prelude.{◌≡◌, ◌<◌, ◌≤◌};
+ghost use Rattle.chip_words.specs.Bits.{has_bit};
 ghost use Rattle.cpux_decode.specs.Ranges.{IsCount, IsDestination, IsPlace};
-ghost use Rattle.cpux_decode.specs.Operands.{bit, bits, destination_place, long_size_of, once as once_of, rep_of, sign_extended as sign_extension_of, size_of, source_place, source_words as source_words_of, wide as wide_of};
+ghost use Rattle.cpux_decode.specs.Operands.{bits, destination_place, long_size_of, once as once_of, rep_of, sign_extended as sign_extended_of, size_of, source_place, source_words as source_words_of, wide as wide_of};
 
 use crate::instructions::{Count, Rep};
 use crate::places::Place;
-use chip_words::Size;
+use chip_words::{CG, PC, SR, Size};
+
+/// Bit B/W of an instruction word: the operands are bytes.
+const B_W: u32 = 6;
+/// Bit A/L of an extension word: the width is that of the instruction word, and not 20 bits.
+const A_L: u32 = 6;
+/// Bit # of an extension word: the repeats are counted by a register.
+const COUNT_IN_REGISTER: u32 = 7;
+/// Bit ZC of an extension word: the carry that goes in is 0.
+const ZC: u32 = 8;
 
 /// Bits 11:8.
 pub fn field_11_8(word: u16) -> u8
@@ -51,7 +61,7 @@ pub fn destination_mode(word: u16) -> u8
 /// Says whether a bit is set.
 pub fn is_set(word: u16, place: u32) -> bool
     requires { place < 16 }
-    ensures { result ≡ bit word place }
+    ensures { result ≡ has_bit word place }
 {
     (word >> place) & 1 == 1
 }
@@ -65,16 +75,23 @@ pub fn wide(high: u8, low: u16) -> u32
     (high as u32) << 16 | low as u32
 }
 
-/// A word as a signed number, at 20 bits.
-pub fn sign_extended(word: u16) -> u32
-    ensures value { result ≡ sign_extension_of word }
+/// A number below `from` as a signed one, below `to`: its highest bit stands in all bits above it. Both are powers of
+/// two, as the widths have them.
+pub fn sign_extended(from: u32, to: u32, x: u32) -> u32
+    requires wider { from ≤ to }
+    requires x { x < from }
+    ensures value { result ≡ sign_extended_of from to x }
+    ensures range { result < to }
+{
+    if x < from / 2 { x } else { to - from + x }
+}
+
+/// An index word as a signed number, at 20 bits.
+pub fn signed_index(word: u16) -> u32
+    ensures value { result ≡ sign_extended_of 0x10000 0x100000 word }
     ensures range { result < 0x100000 }
 {
-    if word < 0x8000 {
-        word as u32
-    } else {
-        0xF0000 | word as u32
-    }
+    sign_extended(0x10000, 0x100000, word as u32)
 }
 
 /// A source by its addressing mode and register. `x` is the word that may belong to it, and `high` has its
@@ -88,18 +105,18 @@ pub fn source(long: bool, high: u8, mode: u8, r: u8, x: u16) -> Place
     ensures range { IsPlace result }
 {
     match (mode, r) {
-        (0, 3) => Place::Const(0),
+        (0, CG) => Place::Const(0),
         (0, _) => Place::Reg(r),
-        (1, 2) => Place::Absolute(wide(high, x)),
-        (1, 3) => Place::Const(1),
+        (1, SR) => Place::Absolute(wide(high, x)),
+        (1, CG) => Place::Const(1),
         (1, _) if long => Place::Far(r, wide(high, x)),
         (1, _) => Place::Near(r, x),
-        (2, 2) => Place::Const(4),
-        (2, 3) => Place::Const(2),
+        (2, SR) => Place::Const(4),
+        (2, CG) => Place::Const(2),
         (2, _) => Place::At(r),
-        (_, 0) => Place::Imm(wide(high, x)),
-        (_, 2) => Place::Const(8),
-        (_, 3) => Place::Const(0xFFFFF),
+        (_, PC) => Place::Imm(wide(high, x)),
+        (_, SR) => Place::Const(8),
+        (_, CG) => Place::Const(0xFFFFF),
         _ => Place::AtPlus(r),
     }
 }
@@ -111,8 +128,8 @@ pub fn source_words(mode: u8, r: u8) -> u8
     ensures most { result ≤ 1 }
 {
     match (mode, r) {
-        (1, 3) => 0,
-        (1, _) | (3, 0) => 1,
+        (1, CG) => 0,
+        (1, _) | (3, PC) => 1,
         _ => 0,
     }
 }
@@ -128,7 +145,7 @@ pub fn destination(long: bool, high: u8, mode: u8, r: u8, x: u16) -> Place
 {
     match (mode, r) {
         (0, _) => Place::Reg(r),
-        (_, 2) => Place::Absolute(wide(high, x)),
+        (_, SR) => Place::Absolute(wide(high, x)),
         _ if long => Place::Far(r, wide(high, x)),
         _ => Place::Near(r, x),
     }
@@ -138,7 +155,7 @@ pub fn destination(long: bool, high: u8, mode: u8, r: u8, x: u16) -> Place
 pub fn size(word: u16) -> Size
     ensures { result ≡ size_of word }
 {
-    if is_set(word, 6) {
+    if is_set(word, B_W) {
         Size::Byte
     } else {
         Size::Word
@@ -149,7 +166,7 @@ pub fn size(word: u16) -> Size
 pub fn long_size(extension: u16, word: u16) -> Size
     ensures { result ≡ long_size_of extension word }
 {
-    if is_set(extension, 6) {
+    if is_set(extension, A_L) {
         size(word)
     } else {
         Size::Addr
@@ -177,13 +194,13 @@ pub fn rep(repeated: bool, extension: u16) -> Rep
         return once();
     }
     let low = field_3_0(extension);
-    let count = if is_set(extension, 7) {
+    let count = if is_set(extension, COUNT_IN_REGISTER) {
         Count::InReg(low)
     } else {
         Count::Fixed(low + 1)
     };
     Rep {
-        zero_carry: is_set(extension, 8),
+        zero_carry: is_set(extension, ZC),
         count,
     }
 }

@@ -1,5 +1,7 @@
 ghost use Rattle.std.specs.Prelude.{◌≡◌};
 
+use chip_words::PC;
+
 /// A place that an instruction reads or writes.
 ///
 /// Registers are numbered 0 to 15. Where the base of an index is R0, the address is counted from that of the
@@ -40,7 +42,7 @@ impl Place {
     pub fn is_pc(self) -> bool
         ensures { result ≡ is_pc_of self }
     {
-        matches!(self, Place::Reg(0))
+        matches!(self, Place::Reg(PC))
     }
 
     /// Says whether the place is a register.
