@@ -4,7 +4,6 @@ use Rattle.std.specs.Int.{bit_at}
 use Rattle.std.specs.Int.Bits.{bit_and, bit_or, and_zero_r}
 use Rattle.std.proofs.lemmas.Nat.{and_assoc, and_comm, or_disjoint}
 use Rattle.std.proofs.lemmas.Nat.Bits.{and_high, bit_at_and, bit_at_or, same_from_bits}
-use Rattle.chip_words.specs.Bits.{bit_of}
 use Rattle.cpux_alu.specs.declared.effects.Flags.{Flags}
 use Rattle.cpux_alu.specs.Effects.{flag_bits, other_bits}
 
@@ -23,7 +22,7 @@ and_or n a b = same_from_bits _ _ (λ i.
 apart : (n a b : ℕ) → bit_and a b ≡ 0 → bit_and (bit_and n a) b ≡ 0
 apart n a b e = and_assoc b n a ∙ ap (bit_and n) e ∙ and_zero_r n
 
-no_flag : (c z n v : Bool) → bit_and 0xFEF8 (bit_of c + 2 * bit_of z + 4 * bit_of n + 0x100 * bit_of v) ≡ 0
+no_flag : (c z n v : Bool) → bit_and 0xFEF8 (flag_bits (record { carry = c; zero = z; negative = n; overflow = v })) ≡ 0
 no_flag false false false false = refl
 no_flag false false false true = refl
 no_flag false false true false = refl

@@ -1,7 +1,8 @@
 -- What an operation gives, a result and flags, over the numbers below a span: 2^8, 2^16 or 2^20.
-use Rattle.std.specs.Prelude.{ℕ, ◌+◌, ◌-◌, ◌*◌, ◌/◌, ◌%◌, Bool, nat_le, ◌==◌, not, if◌then◌else◌, Option, Some, None}
+use Rattle.std.specs.Prelude.{ℕ, ◌+◌, ◌-◌, ◌*◌, ◌/◌, ◌%◌, ◌^◌, Bool, nat_le, ◌==◌, not, Option, Some, None}
 use Rattle.chip_words.specs.Bits.{bit_of}
-use Rattle.cpux_decode.specs.Operands.{bits}
+use Rattle.chip_words.specs.Registers.{C, Z, N, V}
+use Rattle.cpux_decode.specs.Operands.{bits, sign_extended}
 use Rattle.cpux_alu.specs.declared.effects.Flags.{Flags}
 use Rattle.cpux_alu.specs.declared.effects.Effect.{Effect}
 
@@ -13,9 +14,9 @@ is_negative span x = nat_le (span / 2) x
 abbrev pub complement : ℕ → ℕ → ℕ
 complement span x = span - 1 - x
 
--- the lowest byte, with its highest bit in all bits above it
+-- the lowest byte as a signed number
 abbrev pub extended_byte : ℕ → ℕ → ℕ
-extended_byte span x = if is_negative 0x100 (x % 0x100) then span - 0x100 + x % 0x100 else x % 0x100
+extended_byte span x = sign_extended 0x100 span (x % 0x100)
 
 -- a result with its flags: Z says that it is 0, and N is its highest bit
 abbrev pub with_flags : ℕ → ℕ → Bool → Bool → Effect
@@ -32,9 +33,10 @@ with_logic_flags span value overflow = with_flags span value (not (value == 0)) 
 abbrev pub without_flags : ℕ → Effect
 without_flags value = record { value = value; flags = None }
 
--- the flags at their places in the status register (SLAU367, chapter CPUX): C bit 0, Z bit 1, N bit 2, V bit 8
+-- the flags at their places in the status register (SLAU367, chapter CPUX)
 abbrev pub flag_bits : Flags → ℕ
-flag_bits f = bit_of f.carry + 2 * bit_of f.zero + 4 * bit_of f.negative + 0x100 * bit_of f.overflow
+flag_bits f =
+    2 ^ C * bit_of f.carry + 2 ^ Z * bit_of f.zero + 2 ^ N * bit_of f.negative + 2 ^ V * bit_of f.overflow
 
 -- the bits of the status register that are no flags, 15:9 and 7:3
 abbrev pub other_bits : ℕ → ℕ

@@ -13,14 +13,18 @@ use Rattle.cpux_alu.specs.Shifts.{with_carry, shift_places}
 -- without overflow a sum is the exact sum of the signed values and the carry
 abbrev pub SignedSumIsExact : Type 0
 SignedSumIsExact =
-    (size : Size) (x y : ℕ) (carry : Bool) → x < span size → y < span size → overflows (span size) x y carry ≡ false →
-    signed_value (span size) ((x + y + bit_of carry) % span size) ≡ (signed_value (span size) x +ℤ signed_value (span size) y) +ℤ pos (bit_of carry)
+    (size : Size) (x y : ℕ) (carry : Bool) → x < span size → y < span size →
+    overflows (span size) x y carry ≡ false →
+    signed_value (span size) ((x + y + bit_of carry) % span size)
+    ≡ (signed_value (span size) x +ℤ signed_value (span size) y) +ℤ pos (bit_of carry)
 
 -- the sum with the complement and 1 is a difference: the carry says that there is no borrow, and the overflow that the
 -- exact difference of the signed values leaves the range
 pub record IsDifference (span x y : ℕ) : Type 0 where
   pub carry : nat_le span (x + complement span y + 1) ≡ nat_le y x
-  pub overflow : overflows span x (complement span y) true ≡ leaves_range span (signed_value span x -ℤ signed_value span y)
+  pub overflow :
+      overflows span x (complement span y) true
+      ≡ leaves_range span (signed_value span x -ℤ signed_value span y)
 
 abbrev pub ComplementSubtracts : Type 0
 ComplementSubtracts = (size : Size) (x y : ℕ) → x < span size → y < span size → IsDifference (span size) x y

@@ -1,10 +1,11 @@
--- Results and flags of the operations, as a table (SLAU367, chapter CPUX). That V is 0 after the shifts is this project's
--- own profile.
+-- Results and flags of the operations, as a table (SLAU367, chapter CPUX). That V is 0 after the shifts is this
+-- project's own profile.
 use Rattle.std.specs.Prelude.{ℕ, ◌+◌, ◌*◌, ◌/◌, ◌%◌, Bool, true, false, ◌&&◌, bit_and, bit_or, bit_xor}
 use Rattle.chip_words.specs.declared.sizes.Size.{Size}
 use Rattle.chip_words.specs.declared.sizes.Size.TheVariants.{Addr}
 use Rattle.chip_words.specs.Bits.{has_bit}
 use Rattle.chip_words.specs.Decimals.{digits_of}
+use Rattle.chip_words.specs.Registers.{C}
 use Rattle.chip_words.specs.Sizes.{span}
 use Rattle.cpux_decode.specs.declared.operations.Op1.{Op1}
 use Rattle.cpux_decode.specs.declared.operations.Op1.TheVariants as one
@@ -31,11 +32,12 @@ two_effect Dadd size src dst carry = decimal_effect (span size) (digits_of size)
 two_effect Bit size src dst carry = with_logic_flags (span size) (bit_and dst src) false
 two_effect Bic size src dst carry = without_flags (bit_and dst (complement (span size) src))
 two_effect Bis size src dst carry = without_flags (bit_or dst src)
-two_effect Xor size src dst carry = with_logic_flags (span size) (bit_xor dst src) (is_negative (span size) dst && is_negative (span size) src)
+two_effect Xor size src dst carry =
+    with_logic_flags (span size) (bit_xor dst src) (is_negative (span size) dst && is_negative (span size) src)
 two_effect And size src dst carry = with_logic_flags (span size) (bit_and dst src) false
 
 abbrev pub two_at : Op2 → Size → ℕ → ℕ → ℕ → Effect
-two_at op size src dst sr = two_effect op size (src % span size) (dst % span size) (has_bit sr 0)
+two_at op size src dst sr = two_effect op size (src % span size) (dst % span size) (has_bit sr C)
 
 -- the result at a width, and the status register after it
 unfoldable pub two_value : Op2 → Size → ℕ → ℕ → ℕ → ℕ
@@ -64,7 +66,7 @@ one_effect one.Push span x carry = without_flags x
 one_effect one.Call span x carry = without_flags x
 
 abbrev pub one_at : Op1 → Size → ℕ → ℕ → Effect
-one_at op size x sr = one_effect op (span size) (x % span size) (has_bit sr 0)
+one_at op size x sr = one_effect op (span size) (x % span size) (has_bit sr C)
 
 unfoldable pub one_value : Op1 → Size → ℕ → ℕ → ℕ
 one_value op size x sr = (one_at op size x sr).value
@@ -74,7 +76,8 @@ one_status op size x sr = status_after sr (one_at op size x sr).flags
 
 -- the shifts by several places
 abbrev pub shift_at : OpS → Size → ℕ → ℕ → ℕ → Effect
-shift_at op size count x sr = shift_effect (span size) (shift_places op (span size) count (with_carry (x % span size) (has_bit sr 0)))
+shift_at op size count x sr =
+    shift_effect (span size) (shift_places op (span size) count (with_carry (x % span size) (has_bit sr C)))
 
 unfoldable pub shift_value : OpS → Size → ℕ → ℕ → ℕ → ℕ
 shift_value op size count x sr = (shift_at op size count x sr).value

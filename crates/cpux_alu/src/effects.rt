@@ -22,7 +22,16 @@ pub struct Effect {
     pub flags: Option<Flags>,
 }
 
-/// Where C, Z, N and V stand in the status register.
+/// The place of the carry in the status register.
+pub const C: u32 = 0;
+/// The place of the bit that says that a result was 0.
+pub const Z: u32 = 1;
+/// The place of the bit that says that a result was negative.
+pub const N: u32 = 2;
+/// The place of the overflow.
+pub const V: u32 = 8;
+
+/// The bits C, Z, N and V.
 const FLAGS: u16 = 0x107;
 
 impl Flags {
@@ -30,10 +39,10 @@ impl Flags {
     fn bits(self) -> u16
         ensures value { result ≡ flag_bits self }
     {
-        self.carry as u16
-            | (self.zero as u16) << 1
-            | (self.negative as u16) << 2
-            | (self.overflow as u16) << 8
+        (self.carry as u16) << C
+            | (self.zero as u16) << Z
+            | (self.negative as u16) << N
+            | (self.overflow as u16) << V
     }
 }
 

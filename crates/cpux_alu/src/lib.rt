@@ -16,7 +16,8 @@ mod sums;
 mod tests;
 mod widths;
 
-use cpux_decode::{Op1, Op2, OpA, OpS, Size};
+use cpux_decode::{Op1, Op2, OpA, OpS, Size, sign_extended};
+pub use effects::{C, N, V, Z};
 use effects::{Effect, status, with_logic_flags, without_flags};
 pub use laws::{complement_subtracts, decimal_sum_is_exact, shifts_scale, signed_sum_is_exact};
 use shifts::{Shifted, shift_once, shift_places, shift_result};
@@ -135,10 +136,6 @@ pub fn near(reg: u32, index: u16) -> u32
     if reg < 0x10000 {
         return (reg + index as u32) & 0xFFFF;
     }
-    let index = if index < 0x8000 {
-        index as u32
-    } else {
-        0xF0000 | index as u32
-    };
+    let index = sign_extended(0x10000, 0x100000, index as u32);
     ((reg & 0xFFFFF) + index) & 0xFFFFF
 }

@@ -85,8 +85,9 @@ fn differences(rt: HostRuntime) {
 
 #[test]
 fn decimal_sums(rt: HostRuntime) {
-    let cases: [TwoCase; 6] = [
+    let cases: [TwoCase; 7] = [
         // 999 + 1 is 1000
+        (Op2::Dadd, Word, 0x0999, 1, 0, 0x1000, 0),
         (Op2::Dadd, Word, 0x0999, 1, V, 0x1000, 0),
         // 99 + 1 is 100
         (Op2::Dadd, Byte, 0x99, 1, 0, 0, C | Z),

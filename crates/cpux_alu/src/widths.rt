@@ -2,7 +2,7 @@ ghost use Rattle.std.specs.Prelude.{◌≡◌, ℕ, ◌+◌, ◌-◌, ◌*◌, �
 ghost use Rattle.chip_words.specs.Sizes.{span};
 ghost use Rattle.cpux_alu.specs.Effects.{complement as complement_of, extended_byte as extended_byte_of, is_negative as is_negative_of};
 
-use cpux_decode::Size;
+use cpux_decode::{Size, sign_extended};
 
 /// The bits of a width.
 pub fn mask(size: Size) -> u32
@@ -44,15 +44,10 @@ pub fn complement(size: Size, x: u32) -> u32
     !x & mask(size)
 }
 
-/// The lowest byte, with its highest bit in all bits above it.
+/// The lowest byte as a signed number.
 pub fn extended_byte(size: Size, x: u32) -> u32
     ensures value { result ≡ extended_byte_of (span size) x }
     ensures range { result < span size }
 {
-    let byte = x & 0xFF;
-    if byte < 0x80 {
-        byte
-    } else {
-        mask(size) - 0xFF + byte
-    }
+    sign_extended(0x100, mask(size) + 1, x & 0xFF)
 }

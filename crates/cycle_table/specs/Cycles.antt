@@ -4,6 +4,7 @@ use Rattle.std.specs.Prelude.{ℕ, ◌+◌, ◌-◌, ◌*◌, Bool, true, false,
 use Rattle.chip_words.specs.declared.sizes.Size.{Size}
 use Rattle.chip_words.specs.declared.sizes.Size.TheVariants.{Addr}
 use Rattle.chip_words.specs.Bits.{bit_of}
+use Rattle.chip_words.specs.Registers.{PC}
 use Rattle.cpux_decode.specs.declared.instructions.Decoded.{Decoded}
 use Rattle.cpux_decode.specs.declared.instructions.Decoded.TheVariants as made
 use Rattle.cpux_decode.specs.declared.operations.Op1.{Op1}
@@ -41,7 +42,7 @@ memory_cost op = 4
 
 -- CMP and BIT on PC cost as on another register
 unfoldable pub destination_cost : Op2 → Place → ℕ
-destination_cost op (Reg r) = if (r == 0) && writes_destination op then 3 else 1
+destination_cost op (Reg r) = if (r == PC) && writes_destination op then 3 else 1
 destination_cost op place = memory_cost op
 
 -- what an extension word adds: with 20 bits, one more for each operand in memory that is read, and for each that is
@@ -58,7 +59,8 @@ repeat_cost repeated reps = if repeated then reps - 1 else 0
 -- the operands in memory that are read and that are written
 unfoldable pub two_accesses : Op2 → Place → Place → ℕ
 two_accesses op from to =
-    bit_of (is_memory from) + bit_of (is_memory to && reads_destination op) + bit_of (is_memory to && writes_destination op)
+    bit_of (is_memory from) + bit_of (is_memory to && reads_destination op)
+    + bit_of (is_memory to && writes_destination op)
 
 -- behind an extension word the register form is repeated
 unfoldable pub two_cycles : Op2 → Size → Place → Place → Bool → ℕ → ℕ
@@ -126,7 +128,7 @@ move_cycles from to = if is_memory to then 4 else load_cost from + pc_write_cost
 -- CMPA, ADDA and SUBA. CMPA writes no register.
 unfoldable pub addr_cycles : OpA → Place → ℕ → ℕ
 addr_cycles address.Cmp from to = address_cost from
-addr_cycles op from to = address_cost from + pc_write_cost (to == 0)
+addr_cycles op from to = address_cost from + pc_write_cost (to == PC)
 
 -- PUSHM and POPM: each register is a word, or two
 unfoldable pub many_cycles : Size → ℕ → ℕ

@@ -1,7 +1,7 @@
 ghost use Rattle.std.specs.Prelude.{◌≡◌, ◌+◌, ◌*◌, ◌≤◌};
 ghost use Rattle.cycle_table.specs.Cycles.{addr_cycles as addr_cycles_of, address_cost as address_cost_of, calla_cycles as calla_cycles_of, load_cost as load_cost_of, many_cycles as many_cycles_of, move_cycles as move_cycles_of};
 
-use cpux_decode::{OpA, Place, Size};
+use cpux_decode::{OpA, PC, Place, Size};
 
 /// What a write of PC adds to an address instruction.
 const PC_WRITE_COST: u32 = 2;
@@ -54,7 +54,7 @@ pub fn addr_cycles(op: OpA, from: Place, to: u8) -> u32
     ensures most { result ≤ 4 }
 {
     match op {
-        OpA::Add | OpA::Sub if to == 0 => address_cost(from) + PC_WRITE_COST,
+        OpA::Add | OpA::Sub if to == PC => address_cost(from) + PC_WRITE_COST,
         _ => address_cost(from),
     }
 }

@@ -1,7 +1,7 @@
 ghost use Rattle.std.specs.Prelude.{◌≡◌, ◌+◌, ◌<◌, ◌≤◌};
 ghost use Rattle.cycle_table.specs.Cycles.{change_cost as change_cost_of, destination_cost as destination_cost_of, extension_cost as extension_cost_of, is_repeatable as is_repeatable_of, one_accesses as one_accesses_of, one_cost as one_cost_of, one_cycles as one_cycles_of, push_cost as push_cost_of, repeat_cost as repeat_cost_of, source_cost as source_cost_of, two_accesses as two_accesses_of, two_cycles as two_cycles_of};
 
-use cpux_decode::{Op1, Op2, Place, Size};
+use cpux_decode::{Op1, Op2, PC, Place, Size};
 
 /// The cycles of an operation of two operands.
 #[tactic(auto, unfolding(crate::specs::Cycles::two_cycles))]
@@ -55,7 +55,7 @@ fn destination_cost(op: Op2, place: Place) -> u32
     ensures most { result ≤ 4 }
 {
     match place {
-        Place::Reg(0) if op.writes_destination() => 3,
+        Place::Reg(PC) if op.writes_destination() => 3,
         Place::Reg(_) => 1,
         _ => match op {
             Op2::Mov | Op2::Bit | Op2::Cmp => 3,
