@@ -9,7 +9,8 @@ use Rattle.cpux_decode.specs.declared.places.Place.TheVariants.{Reg}
 use Rattle.cpux_execute.specs.Operands.{IsFor}
 use Rattle.cpux_execute.specs.OneOperand.{width_of}
 
-pub fits_width : (op : Op1) (size : Size) (place : Place) (value : ℕ) → value < span (width_of op size place) → IsFor place size value
+pub fits_width : (op : Op1) (size : Size) (place : Place) (value : ℕ) →
+    value < span (width_of op size place) → IsFor place size value
 unfolding width_of
 fits_width op size (Reg r) value h = tt
 fits_width Sxt size place value h = h

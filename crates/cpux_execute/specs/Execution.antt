@@ -1,7 +1,7 @@
 -- An instruction whose words were fetched, as a script that ends in the registers it leaves and in how it ended.
 use Rattle.std.specs.Prelude.{ℕ, false, List, slice_index}
 use Rattle.chip_words.specs.declared.sizes.Size.{Size}
-use Rattle.chip_words.specs.Registers.{with_register}
+use Rattle.chip_words.specs.Registers.{PC, SR, with_register}
 use Rattle.chip_words.specs.Sizes.{IsByteOrWord}
 use Rattle.chip_words.specs.Script.{Script, Return, and_then}
 use Rattle.cpux_decode.specs.declared.places.Place.{Place}
@@ -38,7 +38,8 @@ performed made.Reti pc registers = return_from_interrupt registers
 performed (made.Two op size from to rep long) pc registers = two_operands op size from to pc registers
 performed (made.One op size place rep long) pc registers = one_operand op size place pc registers
 performed (made.Jump condition distance) pc registers =
-    Return (with_register registers 0 (jumped condition distance (slice_index registers 2) (slice_index registers 0)))
+    let next = slice_index registers PC in
+    Return (with_register registers PC (jumped condition distance (slice_index registers SR) next))
 performed d pc registers = Return registers
 
 -- what an instruction leaves: the registers, and how it ended
@@ -51,5 +52,5 @@ pub record Stepped : Type 0 where
 unfoldable pub executed : Decoded → ℕ → ℕ → List ℕ → Script Stepped
 executed made.Reserved ia next registers = Return (record { registers = registers; outcome = Reserved })
 executed d ia next registers =
-    and_then (performed d (above ia) (with_register registers 0 next)) (λ after.
+    and_then (performed d (above ia) (with_register registers PC next)) (λ after.
     Return (record { registers = after; outcome = Cycles (cycles_of d 1 0) }))

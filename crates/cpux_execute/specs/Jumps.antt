@@ -1,21 +1,22 @@
 -- Jumps: when they are taken, and where they go.
 use Rattle.std.specs.Prelude.{ℕ, ℤ, pos, negsuc, ◌+◌, ◌-◌, ◌*◌, ◌%◌, ◌==◌, not, Bool, true, if◌then◌else◌}
 use Rattle.chip_words.specs.Bits.{has_bit}
+use Rattle.chip_words.specs.Registers.{C, Z, N, V}
 
 -- two flags are the same
 abbrev pub same : Bool → Bool → Bool
 same first second = if first then second else not second
 
--- by the condition: JNE, JEQ, JNC, JC, JN, JGE, JL and JMP; C is bit 0 of SR, Z 1, N 2 and V 8
+-- by the condition: JNE, JEQ, JNC, JC, JN, JGE, JL and JMP
 unfoldable pub is_taken : ℕ → ℕ → Bool
 is_taken condition sr =
-    if condition == 0 then not (has_bit sr 1)
-    else if condition == 1 then has_bit sr 1
-    else if condition == 2 then not (has_bit sr 0)
-    else if condition == 3 then has_bit sr 0
-    else if condition == 4 then has_bit sr 2
-    else if condition == 5 then same (has_bit sr 2) (has_bit sr 8)
-    else if condition == 6 then not (same (has_bit sr 2) (has_bit sr 8))
+    if condition == 0 then not (has_bit sr Z)
+    else if condition == 1 then has_bit sr Z
+    else if condition == 2 then not (has_bit sr C)
+    else if condition == 3 then has_bit sr C
+    else if condition == 4 then has_bit sr N
+    else if condition == 5 then same (has_bit sr N) (has_bit sr V)
+    else if condition == 6 then not (same (has_bit sr N) (has_bit sr V))
     else true
 
 -- so many words from the next address on

@@ -3,3 +3,4 @@ pub mod TwoOperands
 pub mod OneOperand
 pub mod Jumps
 pub mod Execution
+pub mod Steps

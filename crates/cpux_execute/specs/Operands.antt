@@ -4,7 +4,7 @@ use Rattle.chip_words.specs.declared.sizes.Size.{Size}
 use Rattle.chip_words.specs.declared.sizes.Size.TheVariants.{Byte, Word, Addr}
 use Rattle.chip_words.specs.declared.accesses.Kind.TheVariants.{Read, Write}
 use Rattle.chip_words.specs.Sizes.{span}
-use Rattle.chip_words.specs.Registers.{with_register}
+use Rattle.chip_words.specs.Registers.{PC, SP, SR, with_register}
 use Rattle.chip_words.specs.Script.{Script, Return, Ask, and_then}
 use Rattle.cpux_decode.specs.declared.places.Place.{Place}
 use Rattle.cpux_decode.specs.declared.places.Place.TheVariants.{Reg, Const, Near, Far, Absolute, At, AtPlus, Imm}
@@ -12,7 +12,7 @@ use Rattle.cpux_alu.specs.Addresses.{near_address}
 
 -- the value of a register, where PC stands at an address
 abbrev pub register_at : List ℕ → ℕ → ℕ → ℕ
-register_at registers pc n = if n == 0 then pc else slice_index registers n
+register_at registers pc n = if n == PC then pc else slice_index registers n
 
 -- the address of an operand in memory. PC stands at the operand's index word.
 unfoldable pub address_of : List ℕ → ℕ → Place → ℕ
@@ -54,9 +54,9 @@ source size registers pc (Const value) = Return value
 source size registers pc (Imm value) = Return value
 source size registers pc place = asked (address_of registers pc place) size
 
--- how far an autoincrement goes: SP stays even
+-- how far an autoincrement goes: PC and SP stay even
 abbrev pub step_of : Size → ℕ → ℕ
-step_of Byte r = if r == 0 || r == 1 then 2 else 1
+step_of Byte r = if r == PC || r == SP then 2 else 1
 step_of Word r = 2
 step_of Addr r = 4
 
@@ -76,14 +76,14 @@ stored_to size registers at (Reg r) value = Return (with_register registers r va
 stored_to size registers at place value = and_then (put at size value) (λ done. Return registers)
 
 unfoldable pub is_status : Place → Bool
-is_status (Reg r) = r == 2
+is_status (Reg r) = r == SR
 is_status place = false
 
 -- SR takes the flags, unless the result itself was written there
 abbrev pub flagged : Bool → Place → ℕ → List ℕ → List ℕ
 flagged written place status registers =
-    if written then (if is_status place then registers else with_register registers 2 status)
-    else with_register registers 2 status
+    if written then (if is_status place then registers else with_register registers SR status)
+    else with_register registers SR status
 
 -- two bytes before an address
 abbrev pub before : ℕ → ℕ

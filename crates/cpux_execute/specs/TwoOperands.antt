@@ -2,6 +2,7 @@
 -- read, the result is written, and the flags are set.
 use Rattle.std.specs.Prelude.{ℕ, Bool, true, false, List, slice_index}
 use Rattle.chip_words.specs.declared.sizes.Size.{Size}
+use Rattle.chip_words.specs.Registers.{PC, SR}
 use Rattle.chip_words.specs.Script.{Script, Return, and_then}
 use Rattle.cpux_decode.specs.declared.places.Place.{Place}
 use Rattle.cpux_decode.specs.declared.operations.Op2.{Op2}
@@ -24,7 +25,8 @@ two_target op size registers at to = read_if (reads_destination op) (target size
 
 -- the result, of an operation that may not write it
 unfoldable pub two_store : Op2 → Size → List ℕ → ℕ → Place → ℕ → Script (List ℕ)
-two_store op size registers at to value = write_if (writes_destination op) registers (stored_to size registers at to value)
+two_store op size registers at to value =
+    write_if (writes_destination op) registers (stored_to size registers at to value)
 
 -- what follows the source; `at` is the address of the destination
 abbrev pub two_rest : Op2 → Size → Place → ℕ → ℕ → ℕ → List ℕ → Script (List ℕ)
@@ -38,5 +40,5 @@ two_rest op size to at status src registers =
 unfoldable pub two_operands : Op2 → Size → Place → Place → ℕ → List ℕ → Script (List ℕ)
 two_operands op size from to pc registers =
     and_then (source size registers pc from) (λ src.
-    two_rest op size to (address_of (increased size from registers) (before (slice_index registers 0)) to)
-    (slice_index registers 2) src (increased size from registers))
+    two_rest op size to (address_of (increased size from registers) (before (slice_index registers PC)) to)
+    (slice_index registers SR) src (increased size from registers))

@@ -3,16 +3,17 @@ ghost use Rattle.cpux_decode.specs.Ranges.{IsDistance};
 ghost use Rattle.cpux_execute.specs.Jumps.{is_taken as is_taken_by, jump_target, jumped};
 
 use chip_words::wrap20;
+use cpux_alu::{C, N, V, Z};
 
 /// Says whether a jump with this condition, 0 to 7, is taken (SLAU367, chapter CPUX, jump instructions).
 #[tactic(auto, unfolding(crate::specs::Jumps::is_taken))]
 fn is_taken(condition: u8, sr: u16) -> bool
     ensures { result ≡ is_taken_by condition sr }
 {
-    let carry = sr & 1 == 1;
-    let zero = (sr >> 1) & 1 == 1;
-    let negative = (sr >> 2) & 1 == 1;
-    let overflow = (sr >> 8) & 1 == 1;
+    let carry = (sr >> C) & 1 == 1;
+    let zero = (sr >> Z) & 1 == 1;
+    let negative = (sr >> N) & 1 == 1;
+    let overflow = (sr >> V) & 1 == 1;
     match condition {
         0 => !zero,
         1 => zero,

@@ -3,13 +3,13 @@
 //! Operands are read, written and pushed at each width, so that the instructions of 20 bits are made of the same parts.
 #![tactic(auto)]
 
-ghost use Rattle.std.specs.Prelude.{◌≡◌, ℕ, ◌+◌, ◌%◌, ◌<◌, ◌≤◌, length, slice_index};
-ghost use Rattle.chip_words.specs.Script.{run};
+ghost use Rattle.std.specs.Prelude.{◌≡◌, ℕ, ◌<◌, ◌≤◌, length};
 ghost use Rattle.cpux_decode.specs.Ranges.{IsInRange};
 ghost use Rattle.cpux_execute.specs.Execution.{IsShort, executed, performed};
+ghost use Rattle.cpux_execute.specs.Steps.{AddsAtMost, CpuRuns, CpuSteps};
 
-use chip_words::{Agent, Bus, Regs};
-use cpux_decode::Decoded;
+use chip_words::{Bus, Regs};
+use cpux_decode::{Decoded, PC, SR};
 use cycle_table::cycles;
 
 mod jumps;
@@ -18,7 +18,7 @@ mod operands;
 mod outcomes;
 mod two_operands;
 
-pub use one_operand::{below, part, perform_one, push_value, put_down, width};
+pub use one_operand::{below, keep, perform_one, push_value, put_down, width};
 pub use operands::{
     above, address, before, flag, increase, load, put, read_source, read_target, register, store,
 };
@@ -32,10 +32,10 @@ fn perform<B: Bus>(regs: &mut Regs, bus: &mut B, ia: u32, pc: u32, d: &Decoded)
     requires row { IsShort d.now }
     requires range { IsInRange d.now }
     requires pc { pc < 0x100000 }
-    requires room { length (B.chip bus.old).accesses ≤ 4 }
-    ensures registers { regs.new ≡ (run (Agent.Cpu ia) (performed d.now pc regs.old) (B.chip bus.old)).value }
-    ensures chip { B.chip bus.new ≡ (run (Agent.Cpu ia) (performed d.now pc regs.old) (B.chip bus.old)).chip }
-    ensures count { length (B.chip bus.new).accesses ≤ length (B.chip bus.old).accesses + 3 }
+    requires room { length (B.part bus.old).accesses ≤ 4 }
+    ensures steps { CpuRuns ia (performed d.now pc regs.old)
+        (B.part bus.old) regs.new (B.part bus.new) }
+    ensures count { AddsAtMost 3 (B.part bus.old) (B.part bus.new) }
 {
     match *d {
         Decoded::Reserved => {}
@@ -54,8 +54,8 @@ fn perform<B: Bus>(regs: &mut Regs, bus: &mut B, ia: u32, pc: u32, d: &Decoded)
             ..
         } => perform_one(regs, bus, ia, pc, op, size, place),
         Decoded::Jump { cond, offset } => {
-            let address = jumps::jump(cond, offset, regs.get(2) as u16, regs.get(0));
-            regs.set(0, address);
+            let address = jumps::jump(cond, offset, regs.get(SR) as u16, regs.get(PC));
+            regs.set(PC, address);
         }
         _ => unreachable!(),
     }
@@ -71,17 +71,16 @@ pub fn execute<B: Bus>(regs: &mut Regs, bus: &mut B, ia: u32, next: u32, d: &Dec
     requires range { IsInRange d.now }
     requires place { ia < 0x100000 }
     requires next { next < 0x100000 }
-    requires room { length (B.chip bus.old).accesses ≤ 4 }
-    ensures registers { regs.new ≡ (run (Agent.Cpu ia) (executed d.now ia next regs.old) (B.chip bus.old)).value.registers }
-    ensures outcome { result ≡ (run (Agent.Cpu ia) (executed d.now ia next regs.old) (B.chip bus.old)).value.outcome }
-    ensures chip { B.chip bus.new ≡ (run (Agent.Cpu ia) (executed d.now ia next regs.old) (B.chip bus.old)).chip }
-    ensures count { length (B.chip bus.new).accesses ≤ length (B.chip bus.old).accesses + 3 }
+    requires room { length (B.part bus.old).accesses ≤ 4 }
+    ensures steps { CpuSteps ia (executed d.now ia next regs.old)
+        (B.part bus.old) regs.new result (B.part bus.new) }
+    ensures count { AddsAtMost 3 (B.part bus.old) (B.part bus.new) }
     ensures cycles { (n : ℕ) → result ≡ Outcome.Cycles n → 1 ≤ n }
 {
     if let Decoded::Reserved = *d {
         return Outcome::Reserved;
     }
-    regs.set(0, next);
+    regs.set(PC, next);
     perform(regs, bus, ia, above(ia), d);
     Outcome::Cycles(cycles(d, 1, 0))
 }

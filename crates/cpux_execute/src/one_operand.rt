@@ -1,16 +1,16 @@
-ghost use Rattle.std.specs.Prelude.{◌≡◌, ◌+◌, ◌*◌, ◌%◌, ◌<◌, ◌≤◌, length, slice_index};
+ghost use Rattle.std.specs.Prelude.{◌≡◌, ◌*◌, ◌<◌, length};
 ghost use Rattle.chip_words.specs.Sizes.{span};
-ghost use Rattle.chip_words.specs.Script.{run};
 ghost use Rattle.cpux_decode.specs.Ranges.{IsPlace};
 ghost use Rattle.cpux_alu.specs.Operations.{GivesResult};
 ghost use Rattle.cpux_execute.specs.Execution.{one_operand};
 ghost use Rattle.cpux_execute.specs.Operands.{accesses_of};
-ghost use Rattle.cpux_execute.specs.OneOperand.{below as below_of, call as call_of, changed, lowered, part_pushed, push as push_of, pushed, put_down as put_down_of, return_from_interrupt as return_of, width_of};
+ghost use Rattle.cpux_execute.specs.OneOperand.{below as below_of, call as call_of, changed, lowered, kept, push as push_of, pushed, put_down as put_down_of, return_from_interrupt as return_of, width_of};
+ghost use Rattle.cpux_execute.specs.Steps.{AddsAtMost, CpuRuns};
 
 use crate::operands::{above, address, before, flag, increase, read_source, store};
 use chip_words::{Agent, Bus, Regs, Size, wrap20};
 use cpux_alu::one;
-use cpux_decode::{Op1, Place};
+use cpux_decode::{Op1, PC, Place, SP, SR};
 
 /// The width at which an operation of one operand computes: that of its operand, but SXT is 20 bits wide in a register.
 #[tactic(auto, unfolding(crate::specs::OneOperand::width_of))]
@@ -40,13 +40,13 @@ pub fn below(size: Size, sp: u32) -> u32
 fn lower(regs: &mut Regs, size: Size)
     ensures { regs.new ≡ lowered size regs.old }
 {
-    let sp = below(size, regs.get(1));
-    regs.set(1, sp);
+    let sp = below(size, regs.get(SP));
+    regs.set(SP, sp);
 }
 
 /// What a width keeps of a value: its lower 8, 16 or 20 bits.
-pub fn part(size: Size, value: u32) -> u32
-    ensures value { result ≡ part_pushed size value }
+pub fn keep(size: Size, value: u32) -> u32
+    ensures value { result ≡ kept size value }
     ensures fits { result < span size }
 {
     match size {
@@ -62,9 +62,9 @@ pub fn part(size: Size, value: u32) -> u32
 pub fn put_down<B: Bus>(bus: &mut B, ia: u32, at: u32, size: Size, value: u32)
     requires at { at < 0x100000 }
     requires fits { value < span size }
-    requires room { length (B.chip bus.old).accesses < 63 }
-    ensures chip { B.chip bus.new ≡ (run (Agent.Cpu ia) (put_down_of at size value) (B.chip bus.old)).chip }
-    ensures count { length (B.chip bus.new).accesses ≤ length (B.chip bus.old).accesses + accesses_of size }
+    requires room { length (B.part bus.old).accesses < 63 }
+    ensures steps { CpuRuns ia (put_down_of at size value) (B.part bus.old) tt (B.part bus.new) }
+    ensures count { AddsAtMost (accesses_of size) (B.part bus.old) (B.part bus.new) }
 {
     let who = Agent::Cpu(ia);
     match size {
@@ -80,13 +80,13 @@ pub fn put_down<B: Bus>(bus: &mut B, ia: u32, at: u32, size: Size, value: u32)
 #[tactic(auto, using(chip_words::proofs::Runs::run_then), unfolding(crate::specs::OneOperand::pushed))]
 pub fn push_value<B: Bus>(regs: &mut Regs, bus: &mut B, ia: u32, size: Size, value: u32)
     requires fits { value < span size }
-    requires room { length (B.chip bus.old).accesses < 63 }
-    ensures registers { regs.new ≡ (run (Agent.Cpu ia) (pushed size value (lowered size regs.old)) (B.chip bus.old)).value }
-    ensures chip { B.chip bus.new ≡ (run (Agent.Cpu ia) (pushed size value (lowered size regs.old)) (B.chip bus.old)).chip }
-    ensures count { length (B.chip bus.new).accesses ≤ length (B.chip bus.old).accesses + accesses_of size }
+    requires room { length (B.part bus.old).accesses < 63 }
+    ensures steps { CpuRuns ia (pushed size value (lowered size regs.old))
+        (B.part bus.old) regs.new (B.part bus.new) }
+    ensures count { AddsAtMost (accesses_of size) (B.part bus.old) (B.part bus.new) }
 {
     lower(regs, size);
-    put_down(bus, ia, regs.get(1), size, value);
+    put_down(bus, ia, regs.get(SP), size, value);
 }
 
 /// Does PUSH. `pc` is behind the instruction word.
@@ -94,14 +94,14 @@ pub fn push_value<B: Bus>(regs: &mut Regs, bus: &mut B, ia: u32, size: Size, val
 fn push<B: Bus>(regs: &mut Regs, bus: &mut B, ia: u32, pc: u32, size: Size, place: Place)
     requires place { IsPlace place }
     requires pc { pc < 0x100000 }
-    requires room { length (B.chip bus.old).accesses < 61 }
-    ensures registers { regs.new ≡ (run (Agent.Cpu ia) (push_of size place pc regs.old) (B.chip bus.old)).value }
-    ensures chip { B.chip bus.new ≡ (run (Agent.Cpu ia) (push_of size place pc regs.old) (B.chip bus.old)).chip }
-    ensures count { length (B.chip bus.new).accesses ≤ length (B.chip bus.old).accesses + 2 * accesses_of size }
+    requires room { length (B.part bus.old).accesses < 61 }
+    ensures steps { CpuRuns ia (push_of size place pc regs.old)
+        (B.part bus.old) regs.new (B.part bus.new) }
+    ensures count { AddsAtMost (2 * accesses_of size) (B.part bus.old) (B.part bus.new) }
 {
     let value = read_source(regs, bus, ia, pc, size, place);
     increase(regs, size, place);
-    push_value(regs, bus, ia, size, part(size, value));
+    push_value(regs, bus, ia, size, keep(size, value));
 }
 
 /// Does CALL. `pc` is behind the instruction word, and PC in the registers is the next address.
@@ -109,33 +109,32 @@ fn push<B: Bus>(regs: &mut Regs, bus: &mut B, ia: u32, pc: u32, size: Size, plac
 fn call<B: Bus>(regs: &mut Regs, bus: &mut B, ia: u32, pc: u32, place: Place)
     requires place { IsPlace place }
     requires pc { pc < 0x100000 }
-    requires room { length (B.chip bus.old).accesses < 61 }
-    ensures registers { regs.new ≡ (run (Agent.Cpu ia) (call_of place pc regs.old) (B.chip bus.old)).value }
-    ensures chip { B.chip bus.new ≡ (run (Agent.Cpu ia) (call_of place pc regs.old) (B.chip bus.old)).chip }
-    ensures count { length (B.chip bus.new).accesses ≤ length (B.chip bus.old).accesses + 2 }
+    requires room { length (B.part bus.old).accesses < 61 }
+    ensures steps { CpuRuns ia (call_of place pc regs.old)
+        (B.part bus.old) regs.new (B.part bus.new) }
+    ensures count { AddsAtMost 2 (B.part bus.old) (B.part bus.new) }
 {
-    let next = regs.get(0);
-    let entry = read_source(regs, bus, ia, pc, Size::Word, place);
+    let next = regs.get(PC);
+    let target = read_source(regs, bus, ia, pc, Size::Word, place);
     increase(regs, Size::Word, place);
-    push_value(regs, bus, ia, Size::Word, part(Size::Word, next));
-    regs.set(0, part(Size::Word, entry));
+    push_value(regs, bus, ia, Size::Word, keep(Size::Word, next));
+    regs.set(PC, keep(Size::Word, target));
 }
 
 /// Does RETI.
 #[tactic(auto, unfolding(crate::specs::OneOperand::return_from_interrupt))]
 pub fn return_from_interrupt<B: Bus>(regs: &mut Regs, bus: &mut B, ia: u32)
-    requires room { length (B.chip bus.old).accesses < 62 }
-    ensures registers { regs.new ≡ (run (Agent.Cpu ia) (return_of regs.old) (B.chip bus.old)).value }
-    ensures chip { B.chip bus.new ≡ (run (Agent.Cpu ia) (return_of regs.old) (B.chip bus.old)).chip }
-    ensures count { length (B.chip bus.new).accesses ≤ length (B.chip bus.old).accesses + 2 }
+    requires room { length (B.part bus.old).accesses < 62 }
+    ensures steps { CpuRuns ia (return_of regs.old) (B.part bus.old) regs.new (B.part bus.new) }
+    ensures count { AddsAtMost 2 (B.part bus.old) (B.part bus.new) }
 {
     let who = Agent::Cpu(ia);
-    let sp = regs.get(1);
+    let sp = regs.get(SP);
     let status = bus.read(who, sp, Size::Word);
     let low = bus.read(who, above(sp), Size::Word);
-    regs.set(1, wrap20(sp as u64 + 4));
-    regs.set(2, status);
-    regs.set(0, status / 0x1000 * 0x10000 + low);
+    regs.set(SP, wrap20(sp as u64 + 4));
+    regs.set(SR, status);
+    regs.set(PC, status / 0x1000 * 0x10000 + low);
 }
 
 /// Does RRC, SWPB, RRA or SXT. `pc` is behind the instruction word.
@@ -144,12 +143,12 @@ fn change<B: Bus>(regs: &mut Regs, bus: &mut B, ia: u32, pc: u32, op: Op1, size:
     requires operation { GivesResult op }
     requires place { IsPlace place }
     requires pc { pc < 0x100000 }
-    requires room { length (B.chip bus.old).accesses < 61 }
-    ensures registers { regs.new ≡ (run (Agent.Cpu ia) (changed op size place pc regs.old) (B.chip bus.old)).value }
-    ensures chip { B.chip bus.new ≡ (run (Agent.Cpu ia) (changed op size place pc regs.old) (B.chip bus.old)).chip }
-    ensures count { length (B.chip bus.new).accesses ≤ length (B.chip bus.old).accesses + 2 * accesses_of size }
+    requires room { length (B.part bus.old).accesses < 61 }
+    ensures steps { CpuRuns ia (changed op size place pc regs.old)
+        (B.part bus.old) regs.new (B.part bus.new) }
+    ensures count { AddsAtMost (2 * accesses_of size) (B.part bus.old) (B.part bus.new) }
 {
-    let sr = regs.get(2) as u16;
+    let sr = regs.get(SR) as u16;
     let at = address(regs, pc, place);
     let x = read_source(regs, bus, ia, pc, size, place);
     increase(regs, size, place);
@@ -174,10 +173,10 @@ pub fn perform_one<B: Bus>(
 )
     requires place { IsPlace place }
     requires pc { pc < 0x100000 }
-    requires room { length (B.chip bus.old).accesses < 61 }
-    ensures registers { regs.new ≡ (run (Agent.Cpu ia) (one_operand op size place pc regs.old) (B.chip bus.old)).value }
-    ensures chip { B.chip bus.new ≡ (run (Agent.Cpu ia) (one_operand op size place pc regs.old) (B.chip bus.old)).chip }
-    ensures count { length (B.chip bus.new).accesses ≤ length (B.chip bus.old).accesses + 2 * accesses_of size }
+    requires room { length (B.part bus.old).accesses < 61 }
+    ensures steps { CpuRuns ia (one_operand op size place pc regs.old)
+        (B.part bus.old) regs.new (B.part bus.new) }
+    ensures count { AddsAtMost (2 * accesses_of size) (B.part bus.old) (B.part bus.new) }
 {
     match op {
         Op1::Push => push(regs, bus, ia, pc, size, place),

@@ -1,12 +1,12 @@
-ghost use Rattle.std.specs.Prelude.{◌≡◌, ◌+◌, ◌%◌, ◌<◌, ◌≤◌, length};
+ghost use Rattle.std.specs.Prelude.{◌≡◌, ◌<◌, ◌≤◌, length};
 ghost use Rattle.chip_words.specs.Sizes.{span};
-ghost use Rattle.chip_words.specs.Script.{run};
 ghost use Rattle.cpux_decode.specs.Ranges.{IsDestination, IsPlace};
 ghost use Rattle.cpux_execute.specs.Operands.{above as above_of, accesses_of, address_of, asked, before as before_of, IsFor, flagged, increased, is_status as is_status_of, put as put_of, register_at, source, step_of, stored_to, target};
+ghost use Rattle.cpux_execute.specs.Steps.{AddsAtMost, CpuRuns};
 
 use chip_words::{Agent, Bus, Regs, Size, wrap20};
 use cpux_alu::near;
-use cpux_decode::Place;
+use cpux_decode::{PC, Place, SP, SR};
 
 /// Two bytes before an address, modulo 2^20.
 pub fn before(at: u32) -> u32
@@ -33,7 +33,7 @@ pub fn register(regs: &Regs, pc: u32, n: u8) -> u32
     ensures value { result ≡ register_at regs.now pc n }
     ensures small { result < 0x100000 }
 {
-    if n == 0 { pc } else { regs.get(n) }
+    if n == PC { pc } else { regs.get(n) }
 }
 
 /// The address of an operand in memory, whose index word is at `pc` (SLAU367, chapter CPUX, addressing modes).
@@ -59,11 +59,10 @@ pub fn address(regs: &Regs, pc: u32, place: Place) -> u32
 #[tactic(auto, unfolding(crate::specs::Operands::asked))]
 pub fn load<B: Bus>(bus: &mut B, ia: u32, at: u32, size: Size) -> u32
     requires at { at < 0x100000 }
-    requires room { length (B.chip bus.old).accesses < 63 }
-    ensures value { result ≡ (run (Agent.Cpu ia) (asked at size) (B.chip bus.old)).value }
+    requires room { length (B.part bus.old).accesses < 63 }
+    ensures steps { CpuRuns ia (asked at size) (B.part bus.old) result (B.part bus.new) }
     ensures small { result < span size }
-    ensures chip { B.chip bus.new ≡ (run (Agent.Cpu ia) (asked at size) (B.chip bus.old)).chip }
-    ensures count { length (B.chip bus.new).accesses ≤ length (B.chip bus.old).accesses + accesses_of size }
+    ensures count { AddsAtMost (accesses_of size) (B.part bus.old) (B.part bus.new) }
 {
     let who = Agent::Cpu(ia);
     match size {
@@ -81,9 +80,9 @@ pub fn load<B: Bus>(bus: &mut B, ia: u32, at: u32, size: Size) -> u32
 pub fn put<B: Bus>(bus: &mut B, ia: u32, at: u32, size: Size, value: u32)
     requires at { at < 0x100000 }
     requires fits { value < span size }
-    requires room { length (B.chip bus.old).accesses < 63 }
-    ensures chip { B.chip bus.new ≡ (run (Agent.Cpu ia) (put_of at size value) (B.chip bus.old)).chip }
-    ensures count { length (B.chip bus.new).accesses ≤ length (B.chip bus.old).accesses + accesses_of size }
+    requires room { length (B.part bus.old).accesses < 63 }
+    ensures steps { CpuRuns ia (put_of at size value) (B.part bus.old) tt (B.part bus.new) }
+    ensures count { AddsAtMost (accesses_of size) (B.part bus.old) (B.part bus.new) }
 {
     let who = Agent::Cpu(ia);
     match size {
@@ -110,11 +109,11 @@ pub fn read_source<B: Bus>(
 ) -> u32
     requires place { IsPlace place }
     requires pc { pc < 0x100000 }
-    requires room { length (B.chip bus.old).accesses < 63 }
-    ensures value { result ≡ (run (Agent.Cpu ia) (source size regs.now pc place) (B.chip bus.old)).value }
+    requires room { length (B.part bus.old).accesses < 63 }
+    ensures steps { CpuRuns ia (source size regs.now pc place)
+        (B.part bus.old) result (B.part bus.new) }
     ensures small { result < 0x100000 }
-    ensures chip { B.chip bus.new ≡ (run (Agent.Cpu ia) (source size regs.now pc place) (B.chip bus.old)).chip }
-    ensures count { length (B.chip bus.new).accesses ≤ length (B.chip bus.old).accesses + accesses_of size }
+    ensures count { AddsAtMost (accesses_of size) (B.part bus.old) (B.part bus.new) }
 {
     match place {
         Place::Reg(r) => register(regs, pc, r),
@@ -144,7 +143,7 @@ fn step(size: Size, r: u8) -> u32
     ensures small { result ≤ 4 }
 {
     match size {
-        Size::Byte => { if r == 0 || r == 1 { 2 } else { 1 } }
+        Size::Byte => { if r == PC || r == SP { 2 } else { 1 } }
         Size::Word => 2,
         Size::Addr => 4,
     }
@@ -162,11 +161,11 @@ pub fn read_target<B: Bus>(
 ) -> u32
     requires place { IsDestination place }
     requires at { at < 0x100000 }
-    requires room { length (B.chip bus.old).accesses < 63 }
-    ensures value { result ≡ (run (Agent.Cpu ia) (target size regs.now at place) (B.chip bus.old)).value }
+    requires room { length (B.part bus.old).accesses < 63 }
+    ensures steps { CpuRuns ia (target size regs.now at place)
+        (B.part bus.old) result (B.part bus.new) }
     ensures small { result < 0x100000 }
-    ensures chip { B.chip bus.new ≡ (run (Agent.Cpu ia) (target size regs.now at place) (B.chip bus.old)).chip }
-    ensures count { length (B.chip bus.new).accesses ≤ length (B.chip bus.old).accesses + accesses_of size }
+    ensures count { AddsAtMost (accesses_of size) (B.part bus.old) (B.part bus.new) }
 {
     match place {
         Place::Reg(r) => regs.get(r),
@@ -190,10 +189,10 @@ pub fn store<B: Bus>(
     requires place { IsPlace place }
     requires at { at < 0x100000 }
     requires fits { IsFor place size value }
-    requires room { length (B.chip bus.old).accesses < 63 }
-    ensures registers { regs.new ≡ (run (Agent.Cpu ia) (stored_to size regs.old at place value) (B.chip bus.old)).value }
-    ensures chip { B.chip bus.new ≡ (run (Agent.Cpu ia) (stored_to size regs.old at place value) (B.chip bus.old)).chip }
-    ensures count { length (B.chip bus.new).accesses ≤ length (B.chip bus.old).accesses + accesses_of size }
+    requires room { length (B.part bus.old).accesses < 63 }
+    ensures steps { CpuRuns ia (stored_to size regs.old at place value)
+        (B.part bus.old) regs.new (B.part bus.new) }
+    ensures count { AddsAtMost (accesses_of size) (B.part bus.old) (B.part bus.new) }
 {
     match place {
         Place::Reg(r) => regs.set(r, value),
@@ -205,7 +204,7 @@ pub fn store<B: Bus>(
 fn is_status(place: Place) -> bool
     ensures { result ≡ is_status_of place }
 {
-    matches!(place, Place::Reg(2))
+    matches!(place, Place::Reg(SR))
 }
 
 /// Sets SR to the status that an operation gives, unless its result was written there.
@@ -215,6 +214,6 @@ pub fn flag(regs: &mut Regs, written: bool, place: Place, status: u16)
     ensures { regs.new ≡ flagged written place status regs.old }
 {
     if !(written && is_status(place)) {
-        regs.set(2, status as u32);
+        regs.set(SR, status as u32);
     }
 }

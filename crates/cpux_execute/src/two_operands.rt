@@ -1,24 +1,32 @@
-ghost use Rattle.std.specs.Prelude.{◌≡◌, ◌+◌, ◌*◌, ◌%◌, ◌<◌, ◌≤◌, length, slice_index};
+ghost use Rattle.std.specs.Prelude.{◌*◌, ◌<◌, length};
 ghost use Rattle.chip_words.specs.Sizes.{span};
-ghost use Rattle.chip_words.specs.Script.{run};
 ghost use Rattle.cpux_decode.specs.Ranges.{IsDestination, IsPlace};
 ghost use Rattle.cpux_execute.specs.Operands.{accesses_of};
+ghost use Rattle.cpux_execute.specs.Steps.{AddsAtMost, CpuRuns};
 ghost use Rattle.cpux_execute.specs.TwoOperands.{two_operands, two_rest, two_store, two_target};
 
 use crate::operands::{address, before, flag, increase, read_source, read_target, store};
-use chip_words::{Agent, Bus, Regs, Size};
+use chip_words::{Bus, Regs, Size};
 use cpux_alu::two;
-use cpux_decode::{Op2, Place};
+use cpux_decode::{Op2, PC, Place, SR};
 
 /// Reads the destination, unless the operation doesn't.
 #[tactic(auto, unfolding(crate::specs::TwoOperands::two_target))]
-fn read<B: Bus>(regs: &Regs, bus: &mut B, ia: u32, op: Op2, size: Size, at: u32, to: Place) -> u32
+fn read_destination<B: Bus>(
+    regs: &Regs,
+    bus: &mut B,
+    ia: u32,
+    op: Op2,
+    size: Size,
+    at: u32,
+    to: Place,
+) -> u32
     requires place { IsDestination to }
     requires at { at < 0x100000 }
-    requires room { length (B.chip bus.old).accesses < 63 }
-    ensures value { result ≡ (run (Agent.Cpu ia) (two_target op size regs.now at to) (B.chip bus.old)).value }
-    ensures chip { B.chip bus.new ≡ (run (Agent.Cpu ia) (two_target op size regs.now at to) (B.chip bus.old)).chip }
-    ensures count { length (B.chip bus.new).accesses ≤ length (B.chip bus.old).accesses + accesses_of size }
+    requires room { length (B.part bus.old).accesses < 63 }
+    ensures steps { CpuRuns ia (two_target op size regs.now at to)
+        (B.part bus.old) result (B.part bus.new) }
+    ensures count { AddsAtMost (accesses_of size) (B.part bus.old) (B.part bus.new) }
 {
     if op.reads_destination() {
         read_target(regs, bus, ia, at, size, to)
@@ -29,7 +37,7 @@ fn read<B: Bus>(regs: &Regs, bus: &mut B, ia: u32, op: Op2, size: Size, at: u32,
 
 /// Writes the result, unless the operation doesn't.
 #[tactic(auto, unfolding(crate::specs::TwoOperands::two_store))]
-fn write<B: Bus>(
+fn write_destination<B: Bus>(
     regs: &mut Regs,
     bus: &mut B,
     ia: u32,
@@ -42,10 +50,10 @@ fn write<B: Bus>(
     requires place { IsDestination to }
     requires at { at < 0x100000 }
     requires fits { value < span size }
-    requires room { length (B.chip bus.old).accesses < 63 }
-    ensures registers { regs.new ≡ (run (Agent.Cpu ia) (two_store op size regs.old at to value) (B.chip bus.old)).value }
-    ensures chip { B.chip bus.new ≡ (run (Agent.Cpu ia) (two_store op size regs.old at to value) (B.chip bus.old)).chip }
-    ensures count { length (B.chip bus.new).accesses ≤ length (B.chip bus.old).accesses + accesses_of size }
+    requires room { length (B.part bus.old).accesses < 63 }
+    ensures steps { CpuRuns ia (two_store op size regs.old at to value)
+        (B.part bus.old) regs.new (B.part bus.new) }
+    ensures count { AddsAtMost (accesses_of size) (B.part bus.old) (B.part bus.new) }
 {
     if op.writes_destination() {
         store(regs, bus, ia, at, size, to, value);
@@ -67,14 +75,14 @@ fn finish<B: Bus>(
 )
     requires place { IsDestination to }
     requires at { at < 0x100000 }
-    requires room { length (B.chip bus.old).accesses < 61 }
-    ensures registers { regs.new ≡ (run (Agent.Cpu ia) (two_rest op size to at status source regs.old) (B.chip bus.old)).value }
-    ensures chip { B.chip bus.new ≡ (run (Agent.Cpu ia) (two_rest op size to at status source regs.old) (B.chip bus.old)).chip }
-    ensures count { length (B.chip bus.new).accesses ≤ length (B.chip bus.old).accesses + 2 * accesses_of size }
+    requires room { length (B.part bus.old).accesses < 61 }
+    ensures steps { CpuRuns ia (two_rest op size to at status source regs.old)
+        (B.part bus.old) regs.new (B.part bus.new) }
+    ensures count { AddsAtMost (2 * accesses_of size) (B.part bus.old) (B.part bus.new) }
 {
-    let target = read(regs, bus, ia, op, size, at, to);
+    let target = read_destination(regs, bus, ia, op, size, at, to);
     let (value, after) = two(op, size, source, target, status);
-    write(regs, bus, ia, op, size, at, to, value);
+    write_destination(regs, bus, ia, op, size, at, to, value);
     flag(regs, op.writes_destination(), to, after);
 }
 
@@ -96,13 +104,13 @@ pub fn perform_two<B: Bus>(
     requires from { IsPlace from }
     requires to { IsDestination to }
     requires pc { pc < 0x100000 }
-    requires room { length (B.chip bus.old).accesses < 59 }
-    ensures registers { regs.new ≡ (run (Agent.Cpu ia) (two_operands op size from to pc regs.old) (B.chip bus.old)).value }
-    ensures chip { B.chip bus.new ≡ (run (Agent.Cpu ia) (two_operands op size from to pc regs.old) (B.chip bus.old)).chip }
-    ensures count { length (B.chip bus.new).accesses ≤ length (B.chip bus.old).accesses + 3 * accesses_of size }
+    requires room { length (B.part bus.old).accesses < 59 }
+    ensures steps { CpuRuns ia (two_operands op size from to pc regs.old)
+        (B.part bus.old) regs.new (B.part bus.new) }
+    ensures count { AddsAtMost (3 * accesses_of size) (B.part bus.old) (B.part bus.new) }
 {
-    let status = regs.get(2) as u16;
-    let next = regs.get(0);
+    let status = regs.get(SR) as u16;
+    let next = regs.get(PC);
     let source = read_source(regs, bus, ia, pc, size, from);
     increase(regs, size, from);
     let at = address(regs, before(next), to);

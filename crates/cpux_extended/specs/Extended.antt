@@ -14,7 +14,7 @@ use Rattle.cpux_decode.specs.declared.instructions.Decoded.TheVariants as made
 use Rattle.cpux_decode.specs.Places.{is_register_source}
 use Rattle.cpux_execute.specs.Execution.{one_operand}
 use Rattle.cpux_execute.specs.TwoOperands.{two_operands}
-use Rattle.cpux_extended.specs.RegisterForm.{count_of, one_once, repeated, two_once}
+use Rattle.cpux_extended.specs.RegisterForm.{count_of, one_repeated, two_repeated}
 use Rattle.cpux_extended.specs.AddressInstructions.{addressed, moved, shifted}
 use Rattle.cpux_extended.specs.Stack.{called, popped_many, pushed_many}
 
@@ -22,7 +22,7 @@ use Rattle.cpux_extended.specs.Stack.{called, popped_many, pushed_many}
 unfoldable pub extended_two : Op2 → Size → Place → Place → Rep → ℕ → List ℕ → Script (List ℕ)
 extended_two op size from (Reg to) rep pc registers =
     if is_register_source from
-    then Return (repeated (count_of rep.count registers) (two_once op size from to rep.zero_carry pc) registers)
+    then Return (two_repeated op size from to rep pc registers)
     else two_operands op size from (Reg to) pc registers
 extended_two op size from to rep pc registers = two_operands op size from to pc registers
 
@@ -30,8 +30,7 @@ extended_two op size from to rep pc registers = two_operands op size from to pc 
 unfoldable pub extended_one : Op1 → Size → Place → Rep → ℕ → List ℕ → Script (List ℕ)
 extended_one Push size place rep pc registers = one_operand Push size place pc registers
 extended_one Call size place rep pc registers = one_operand Call size place pc registers
-extended_one op size (Reg r) rep pc registers =
-    Return (repeated (count_of rep.count registers) (one_once op size r rep.zero_carry) registers)
+extended_one op size (Reg r) rep pc registers = Return (one_repeated op size r rep registers)
 extended_one op size place rep pc registers = one_operand op size place pc registers
 
 -- PC stands at `pc` behind the instruction word, and at the next address in the registers

@@ -2,7 +2,7 @@
 use Rattle.std.specs.Prelude.{ℕ, ◌+◌, ◌%◌, ◌==◌, Bool, true, false, if◌then◌else◌, List, [], ◌∷◌, slice_index}
 use Rattle.chip_words.specs.declared.sizes.Size.TheVariants.{Word}
 use Rattle.chip_words.specs.declared.accesses.Kind.TheVariants.{Fetch}
-use Rattle.chip_words.specs.Registers.{with_register}
+use Rattle.chip_words.specs.Registers.{PC, with_register}
 use Rattle.chip_words.specs.Script.{Script, Return, Ask, and_then}
 use Rattle.cpux_decode.specs.declared.instructions.Decoded.{Decoded}
 use Rattle.cpux_decode.specs.Instructions.{decoded, is_extension, length_of}
@@ -27,7 +27,7 @@ extended_step d pc registers =
 
 abbrev pub step_by : Bool → Decoded → ℕ → ℕ → List ℕ → Script Stepped
 step_by true d at next registers = executed d at next registers
-step_by false d at next registers = extended_step d (behind_word d at) (with_register registers 0 next)
+step_by false d at next registers = extended_step d (behind_word d at) (with_register registers PC next)
 
 -- an instruction at an address whose words were fetched; `next` is the address behind them
 unfoldable pub step_of_words : List ℕ → ℕ → ℕ → List ℕ → Script Stepped
@@ -41,8 +41,10 @@ fetched bytes at rest = Ask Fetch (behind bytes at) Word 0 rest
 unfoldable pub of_two_words : ℕ → ℕ → ℕ → ℕ → List ℕ → Script Stepped
 of_two_words count w0 w1 at registers =
     if count == 2 then step_of_words (w0 ∷ w1 ∷ 0 ∷ 0 ∷ []) at (behind 4 at) registers
-    else if count == 3 then fetched 4 at (λ w2. step_of_words (w0 ∷ w1 ∷ w2 ∷ 0 ∷ []) at (behind 6 at) registers)
-    else fetched 4 at (λ w2. fetched 6 at (λ w3. step_of_words (w0 ∷ w1 ∷ w2 ∷ w3 ∷ []) at (behind 8 at) registers))
+    else if count == 3
+    then fetched 4 at (λ w2. step_of_words (w0 ∷ w1 ∷ w2 ∷ 0 ∷ []) at (behind 6 at) registers)
+    else fetched 4 at (λ w2.
+    fetched 6 at (λ w3. step_of_words (w0 ∷ w1 ∷ w2 ∷ w3 ∷ []) at (behind 8 at) registers))
 
 -- so many words, of which the first, which is no extension word, was fetched
 unfoldable pub of_one_word : ℕ → ℕ → ℕ → List ℕ → Script Stepped
@@ -55,7 +57,11 @@ abbrev pub of_first_word : Bool → ℕ → ℕ → List ℕ → Script Stepped
 of_first_word true w0 at registers = fetched 2 at (λ w1. of_two_words (length_of w0 w1) w0 w1 at registers)
 of_first_word false w0 at registers = of_one_word (length_of w0 0) w0 at registers
 
--- the instruction at PC
+-- the address of the instruction: it is the one at PC
+abbrev pub instruction_address : List ℕ → ℕ
+instruction_address registers = slice_index registers PC
+
 unfoldable pub instruction : List ℕ → Script Stepped
 instruction registers =
-    Ask Fetch (slice_index registers 0) Word 0 (λ w0. of_first_word (is_extension w0) w0 (slice_index registers 0) registers)
+    let at = instruction_address registers in
+    Ask Fetch at Word 0 (λ w0. of_first_word (is_extension w0) w0 at registers)

@@ -2,7 +2,7 @@
 -- registers alone.
 use Rattle.std.specs.Prelude.{ℕ, zero, suc, ◌+◌, ◌*◌, ◌/◌, ◌%◌, Bool, true, false, ◌&&◌, if◌then◌else◌, List, slice_index}
 use Rattle.chip_words.specs.declared.sizes.Size.{Size}
-use Rattle.chip_words.specs.Registers.{with_register}
+use Rattle.chip_words.specs.Registers.{SR, with_register}
 use Rattle.cpux_decode.specs.declared.places.Place.{Place}
 use Rattle.cpux_decode.specs.declared.places.Place.TheVariants.{Reg}
 use Rattle.cpux_decode.specs.declared.operations.Op1.{Op1}
@@ -11,6 +11,7 @@ use Rattle.cpux_decode.specs.declared.operations.Op2.{Op2}
 use Rattle.cpux_decode.specs.declared.operations.Op2.TheVariants.{Addc, Subc, Dadd}
 use Rattle.cpux_decode.specs.declared.instructions.Count.{Count}
 use Rattle.cpux_decode.specs.declared.instructions.Count.TheVariants.{Fixed, InReg}
+use Rattle.cpux_decode.specs.declared.instructions.Rep.{Rep}
 use Rattle.cpux_decode.specs.Operations.{writes_destination}
 use Rattle.cpux_alu.specs.Operations.{one_value, one_status, two_value, two_status}
 use Rattle.cpux_execute.specs.Operands.{flagged, register_at}
@@ -32,10 +33,10 @@ unfoldable pub one_takes_carry : Op1 → Bool
 one_takes_carry one.Rrc = true
 one_takes_carry op = false
 
--- SR as it goes into an operation: with ZC its bit 0, the carry, is 0
+-- SR as it goes into an operation: with ZC its lowest bit, the carry, is 0
 abbrev pub status_in : Bool → List ℕ → ℕ
 status_in without_carry registers =
-    if without_carry then slice_index registers 2 / 2 * 2 else slice_index registers 2
+    if without_carry then slice_index registers SR / 2 * 2 else slice_index registers SR
 
 -- a source: R3 gives the constant 0
 unfoldable pub register_source : List ℕ → ℕ → Place → ℕ
@@ -67,3 +68,12 @@ one_once op size r zero_carry registers =
 abbrev pub repeated : ℕ → (List ℕ → List ℕ) → List ℕ → List ℕ
 repeated zero operation registers = registers
 repeated (suc n) operation registers = operation (repeated n operation registers)
+
+-- the register form of two operands, and of one
+abbrev pub two_repeated : Op2 → Size → Place → ℕ → Rep → ℕ → List ℕ → List ℕ
+two_repeated op size from to rep pc registers =
+    repeated (count_of rep.count registers) (two_once op size from to rep.zero_carry pc) registers
+
+abbrev pub one_repeated : Op1 → Size → ℕ → Rep → List ℕ → List ℕ
+one_repeated op size r rep registers =
+    repeated (count_of rep.count registers) (one_once op size r rep.zero_carry) registers

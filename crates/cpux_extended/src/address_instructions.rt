@@ -1,11 +1,11 @@
-ghost use Rattle.std.specs.Prelude.{◌≡◌, ◌+◌, ◌<◌, ◌≤◌, length};
-ghost use Rattle.chip_words.specs.Script.{run};
+ghost use Rattle.std.specs.Prelude.{◌≡◌, ◌<◌, ◌≤◌, length};
 ghost use Rattle.cpux_decode.specs.Ranges.{IsDestination, IsPlace};
+ghost use Rattle.cpux_execute.specs.Steps.{AddsAtMost, CpuRuns};
 ghost use Rattle.cpux_extended.specs.AddressInstructions.{addressed, computed, moved, shifted, writes_result as writes_result_of};
 
-use chip_words::{Agent, Bus, Regs, Size};
+use chip_words::{Bus, Regs, Size};
 use cpux_alu::{addr, shift_many};
-use cpux_decode::{OpA, OpS, Place};
+use cpux_decode::{OpA, OpS, PC, Place, SR};
 use cpux_execute::{address, before, flag, increase, read_source, store};
 
 /// Does MOVA. `pc` is behind its first word, and PC in the registers is the next address.
@@ -14,12 +14,12 @@ pub fn move_address<B: Bus>(regs: &mut Regs, bus: &mut B, ia: u32, pc: u32, from
     requires from { IsPlace from }
     requires to { IsDestination to }
     requires pc { pc < 0x100000 }
-    requires room { length (B.chip bus.old).accesses ≤ 4 }
-    ensures registers { regs.new ≡ (run (Agent.Cpu ia) (moved from to pc regs.old) (B.chip bus.old)).value }
-    ensures chip { B.chip bus.new ≡ (run (Agent.Cpu ia) (moved from to pc regs.old) (B.chip bus.old)).chip }
-    ensures count { length (B.chip bus.new).accesses ≤ length (B.chip bus.old).accesses + 4 }
+    requires room { length (B.part bus.old).accesses ≤ 4 }
+    ensures steps { CpuRuns ia (moved from to pc regs.old)
+        (B.part bus.old) regs.new (B.part bus.new) }
+    ensures count { AddsAtMost 4 (B.part bus.old) (B.part bus.new) }
 {
-    let next = regs.get(0);
+    let next = regs.get(PC);
     let value = read_source(regs, bus, ia, pc, Size::Addr, from);
     increase(regs, Size::Addr, from);
     let at = address(regs, before(next), to);
@@ -40,7 +40,7 @@ fn compute(regs: &mut Regs, op: OpA, source: u32, to: u8)
     requires { to < 16 }
     ensures { regs.new ≡ computed op source to regs.old }
 {
-    let (value, after) = addr(op, source, regs.get(to), regs.get(2) as u16);
+    let (value, after) = addr(op, source, regs.get(to), regs.get(SR) as u16);
     if writes_result(op) {
         regs.set(to, value);
     }
@@ -61,10 +61,10 @@ pub fn compute_address<B: Bus>(
     requires from { IsPlace from }
     requires to { to < 16 }
     requires pc { pc < 0x100000 }
-    requires room { length (B.chip bus.old).accesses ≤ 4 }
-    ensures registers { regs.new ≡ (run (Agent.Cpu ia) (addressed op from to pc regs.old) (B.chip bus.old)).value }
-    ensures chip { B.chip bus.new ≡ (run (Agent.Cpu ia) (addressed op from to pc regs.old) (B.chip bus.old)).chip }
-    ensures count { length (B.chip bus.new).accesses ≤ length (B.chip bus.old).accesses + 2 }
+    requires room { length (B.part bus.old).accesses ≤ 4 }
+    ensures steps { CpuRuns ia (addressed op from to pc regs.old)
+        (B.part bus.old) regs.new (B.part bus.new) }
+    ensures count { AddsAtMost 2 (B.part bus.old) (B.part bus.new) }
 {
     let source = read_source(regs, bus, ia, pc, Size::Addr, from);
     compute(regs, op, source, to);
@@ -77,7 +77,7 @@ pub fn shift(regs: &mut Regs, op: OpS, size: Size, count: u8, r: u8)
     requires register { r < 16 }
     ensures { regs.new ≡ shifted op size count r regs.old }
 {
-    let (value, after) = shift_many(op, size, count, regs.get(r), regs.get(2) as u16);
+    let (value, after) = shift_many(op, size, count, regs.get(r), regs.get(SR) as u16);
     regs.set(r, value);
     flag(regs, true, Place::Reg(r), after);
 }

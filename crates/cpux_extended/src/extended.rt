@@ -1,14 +1,14 @@
-ghost use Rattle.std.specs.Prelude.{◌≡◌, ◌+◌, ◌<◌, ◌≤◌, IsTrue, false, length};
-ghost use Rattle.chip_words.specs.Script.{run};
+ghost use Rattle.std.specs.Prelude.{◌≡◌, ◌<◌, ◌≤◌, IsTrue, false, length};
 ghost use Rattle.cpux_decode.specs.Ranges.{IsCount, IsDestination, IsInRange, IsPlace};
 ghost use Rattle.cpux_execute.specs.Execution.{IsShort};
+ghost use Rattle.cpux_execute.specs.Steps.{AddsAtMost, CpuRuns};
 ghost use Rattle.cycle_table.specs.Cycles.{IsInstruction};
 ghost use Rattle.cpux_extended.specs.Extended.{extended, extended_one, extended_two, is_long as is_long_row, is_short as is_short_row, is_short_width as is_short_width_of, repeats as repeats_of};
 
 use crate::address_instructions::{compute_address, move_address, shift};
 use crate::register_form::{count, repeat_one, repeat_two};
-use crate::stack::{call, pop_many, push_many};
-use chip_words::{Agent, Bus, Regs, Size};
+use crate::stack::{call_address, pop_many, push_many};
+use chip_words::{Bus, Regs, Size};
 use cpux_decode::{Decoded, Op1, Op2, Place, Rep};
 use cpux_execute::{perform_one, perform_two};
 
@@ -63,7 +63,7 @@ pub fn repeats(d: &Decoded, regs: &Regs) -> u8
 
 /// Does an operation of two operands behind an extension word.
 #[tactic(auto, unfolding(crate::specs::Extended::extended_two))]
-fn do_two<B: Bus>(
+fn perform_extended_two<B: Bus>(
     regs: &mut Regs,
     bus: &mut B,
     ia: u32,
@@ -78,10 +78,10 @@ fn do_two<B: Bus>(
     requires to { IsDestination to }
     requires rep { IsCount rep.count }
     requires pc { pc < 0x100000 }
-    requires room { length (B.chip bus.old).accesses ≤ 4 }
-    ensures registers { regs.new ≡ (run (Agent.Cpu ia) (extended_two op size from to rep pc regs.old) (B.chip bus.old)).value }
-    ensures chip { B.chip bus.new ≡ (run (Agent.Cpu ia) (extended_two op size from to rep pc regs.old) (B.chip bus.old)).chip }
-    ensures count { length (B.chip bus.new).accesses ≤ length (B.chip bus.old).accesses + 6 }
+    requires room { length (B.part bus.old).accesses ≤ 4 }
+    ensures steps { CpuRuns ia (extended_two op size from to rep pc regs.old)
+        (B.part bus.old) regs.new (B.part bus.new) }
+    ensures count { AddsAtMost 6 (B.part bus.old) (B.part bus.new) }
 {
     match to {
         Place::Reg(to) if from.is_register_source() => repeat_two(
@@ -93,7 +93,7 @@ fn do_two<B: Bus>(
 
 /// Does an operation of one operand behind an extension word.
 #[tactic(auto, unfolding(crate::specs::Extended::extended_one))]
-fn do_one<B: Bus>(
+fn perform_extended_one<B: Bus>(
     regs: &mut Regs,
     bus: &mut B,
     ia: u32,
@@ -106,10 +106,10 @@ fn do_one<B: Bus>(
     requires place { IsPlace place }
     requires rep { IsCount rep.count }
     requires pc { pc < 0x100000 }
-    requires room { length (B.chip bus.old).accesses ≤ 4 }
-    ensures registers { regs.new ≡ (run (Agent.Cpu ia) (extended_one op size place rep pc regs.old) (B.chip bus.old)).value }
-    ensures chip { B.chip bus.new ≡ (run (Agent.Cpu ia) (extended_one op size place rep pc regs.old) (B.chip bus.old)).chip }
-    ensures count { length (B.chip bus.new).accesses ≤ length (B.chip bus.old).accesses + 4 }
+    requires room { length (B.part bus.old).accesses ≤ 4 }
+    ensures steps { CpuRuns ia (extended_one op size place rep pc regs.old)
+        (B.part bus.old) regs.new (B.part bus.new) }
+    ensures count { AddsAtMost 4 (B.part bus.old) (B.part bus.new) }
 {
     match (op, place) {
         (Op1::Push | Op1::Call, _) => perform_one(regs, bus, ia, pc, op, size, place),
@@ -121,13 +121,13 @@ fn do_one<B: Bus>(
 /// Does an instruction of the MSP430X whose words were fetched. `pc` is behind the instruction word, and PC in the
 /// registers is the next address. It makes at most 32 accesses.
 #[tactic(auto, unfolding(crate::specs::Extended::extended))]
-pub fn perform<B: Bus>(regs: &mut Regs, bus: &mut B, ia: u32, pc: u32, d: &Decoded)
+pub fn perform_extended<B: Bus>(regs: &mut Regs, bus: &mut B, ia: u32, pc: u32, d: &Decoded)
     requires range { IsInRange d.now }
     requires pc { pc < 0x100000 }
-    requires room { length (B.chip bus.old).accesses ≤ 4 }
-    ensures registers { regs.new ≡ (run (Agent.Cpu ia) (extended d.now pc regs.old) (B.chip bus.old)).value }
-    ensures chip { B.chip bus.new ≡ (run (Agent.Cpu ia) (extended d.now pc regs.old) (B.chip bus.old)).chip }
-    ensures count { length (B.chip bus.new).accesses ≤ length (B.chip bus.old).accesses + 32 }
+    requires room { length (B.part bus.old).accesses ≤ 4 }
+    ensures steps { CpuRuns ia (extended d.now pc regs.old)
+        (B.part bus.old) regs.new (B.part bus.new) }
+    ensures count { AddsAtMost 32 (B.part bus.old) (B.part bus.new) }
 {
     match *d {
         Decoded::Two {
@@ -137,14 +137,14 @@ pub fn perform<B: Bus>(regs: &mut Regs, bus: &mut B, ia: u32, pc: u32, d: &Decod
             to,
             rep,
             ..
-        } => do_two(regs, bus, ia, pc, op, size, from, to, rep),
+        } => perform_extended_two(regs, bus, ia, pc, op, size, from, to, rep),
         Decoded::One {
             op,
             size,
             place,
             rep,
             ..
-        } => do_one(regs, bus, ia, pc, op, size, place, rep),
+        } => perform_extended_one(regs, bus, ia, pc, op, size, place, rep),
         Decoded::Move { from, to } => move_address(regs, bus, ia, pc, from, to),
         Decoded::Addr { op, from, to } => compute_address(regs, bus, ia, pc, op, from, to),
         Decoded::Shift {
@@ -155,7 +155,7 @@ pub fn perform<B: Bus>(regs: &mut Regs, bus: &mut B, ia: u32, pc: u32, d: &Decod
         } => shift(regs, op, size, count, reg),
         Decoded::PushMany { size, count, reg } => push_many(regs, bus, ia, size, count, reg),
         Decoded::PopMany { size, count, reg } => pop_many(regs, bus, ia, size, count, reg),
-        Decoded::CallA { to } => call(regs, bus, ia, pc, to),
+        Decoded::CallA { to } => call_address(regs, bus, ia, pc, to),
         Decoded::Reserved | Decoded::Reti | Decoded::Jump { .. } => {}
     }
 }

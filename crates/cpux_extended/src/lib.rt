@@ -4,25 +4,23 @@
 //! extension word, the address instructions, the shifts by several places, PUSHM, POPM and CALLA.
 #![tactic(auto)]
 
-ghost use Rattle.std.specs.Prelude.{◌≡◌, ◌+◌, ◌<◌, ◌≤◌, [], length, slice_index, false};
-ghost use Rattle.chip_words.specs.Script.{run};
-ghost use Rattle.cpux_decode.specs.Instructions.{is_extension as is_extension_word};
+ghost use Rattle.std.specs.Prelude.{◌≡◌, ◌<◌, ◌≤◌, [], length};
 ghost use Rattle.cpux_decode.specs.Ranges.{IsInRange};
+ghost use Rattle.cpux_execute.specs.Steps.{CpuSteps};
 ghost use Rattle.cycle_table.specs.Cycles.{IsInstruction};
-ghost use Rattle.cpux_extended.specs.Extended.{is_short as is_short_row};
-ghost use Rattle.cpux_extended.specs.Instruction.{behind, behind_word, extended_step, instruction, of_one_word, of_two_words, step_of_words};
+ghost use Rattle.cpux_extended.specs.Instruction.{behind, behind_word, extended_step, instruction, instruction_address, of_one_word, of_two_words, step_of_words};
 
 mod address_instructions;
 mod extended;
 mod register_form;
 mod stack;
 
-use chip_words::{Agent, Bus, Regs, wrap20};
-use cpux_decode::{Decoded, decode, is_extension, length};
+use chip_words::{Bus, Regs, wrap20};
+use cpux_decode::{Decoded, PC, decode, is_extension, length};
 pub use cpux_execute::Outcome;
 use cpux_execute::execute;
 use cycle_table::cycles;
-use extended::{is_long, is_short, perform, repeats};
+use extended::{is_long, is_short, perform_extended, repeats};
 
 /// So many bytes behind an address.
 fn bytes_behind(bytes: u32, at: u32) -> u32
@@ -51,14 +49,13 @@ fn execute_extended<B: Bus>(regs: &mut Regs, bus: &mut B, ia: u32, pc: u32, d: &
     requires instruction { IsInstruction d.now }
     requires range { IsInRange d.now }
     requires pc { pc < 0x100000 }
-    requires room { length (B.chip bus.old).accesses ≤ 4 }
-    ensures registers { regs.new ≡ (run (Agent.Cpu ia) (extended_step d.now pc regs.old) (B.chip bus.old)).value.registers }
-    ensures outcome { result ≡ (run (Agent.Cpu ia) (extended_step d.now pc regs.old) (B.chip bus.old)).value.outcome }
-    ensures chip { B.chip bus.new ≡ (run (Agent.Cpu ia) (extended_step d.now pc regs.old) (B.chip bus.old)).chip }
-    ensures count { length (B.chip bus.new).accesses ≤ 36 }
+    requires room { length (B.part bus.old).accesses ≤ 4 }
+    ensures steps { CpuSteps ia (extended_step d.now pc regs.old)
+        (B.part bus.old) regs.new result (B.part bus.new) }
+    ensures count { length (B.part bus.new).accesses ≤ 36 }
 {
     let repeats = repeats(d, regs) as u32;
-    perform(regs, bus, ia, pc, d);
+    perform_extended(regs, bus, ia, pc, d);
     Outcome::Cycles(cycles(d, repeats, 0))
 }
 
@@ -73,17 +70,16 @@ fn execute_words<B: Bus>(
 ) -> Outcome
     requires place { ia < 0x100000 }
     requires next { next < 0x100000 }
-    requires room { length (B.chip bus.old).accesses ≤ 4 }
-    ensures registers { regs.new ≡ (run (Agent.Cpu ia) (step_of_words words ia next regs.old) (B.chip bus.old)).value.registers }
-    ensures outcome { result ≡ (run (Agent.Cpu ia) (step_of_words words ia next regs.old) (B.chip bus.old)).value.outcome }
-    ensures chip { B.chip bus.new ≡ (run (Agent.Cpu ia) (step_of_words words ia next regs.old) (B.chip bus.old)).chip }
-    ensures count { length (B.chip bus.new).accesses ≤ 36 }
+    requires room { length (B.part bus.old).accesses ≤ 4 }
+    ensures steps { CpuSteps ia (step_of_words words ia next regs.old)
+        (B.part bus.old) regs.new result (B.part bus.new) }
+    ensures count { length (B.part bus.new).accesses ≤ 36 }
 {
     let d = decode(words);
     if is_short(&d) {
         return execute(regs, bus, ia, next, &d);
     }
-    regs.set(0, next);
+    regs.set(PC, next);
     execute_extended(regs, bus, ia, word_end(&d, ia), &d)
 }
 
@@ -98,11 +94,10 @@ fn execute_two_words<B: Bus>(
     ia: u32,
 ) -> Outcome
     requires place { ia < 0x100000 }
-    requires room { length (B.chip bus.old).accesses ≤ 2 }
-    ensures registers { regs.new ≡ (run (Agent.Cpu ia) (of_two_words count w0 w1 ia regs.old) (B.chip bus.old)).value.registers }
-    ensures outcome { result ≡ (run (Agent.Cpu ia) (of_two_words count w0 w1 ia regs.old) (B.chip bus.old)).value.outcome }
-    ensures chip { B.chip bus.new ≡ (run (Agent.Cpu ia) (of_two_words count w0 w1 ia regs.old) (B.chip bus.old)).chip }
-    ensures count { length (B.chip bus.new).accesses ≤ 36 }
+    requires room { length (B.part bus.old).accesses ≤ 2 }
+    ensures steps { CpuSteps ia (of_two_words count w0 w1 ia regs.old)
+        (B.part bus.old) regs.new result (B.part bus.new) }
+    ensures count { length (B.part bus.new).accesses ≤ 36 }
 {
     let third = bytes_behind(4, ia);
     let fourth = bytes_behind(6, ia);
@@ -121,11 +116,10 @@ fn execute_two_words<B: Bus>(
 #[tactic(auto, unfolding(crate::specs::Instruction::of_one_word))]
 fn execute_one_word<B: Bus>(regs: &mut Regs, bus: &mut B, count: u32, w0: u16, ia: u32) -> Outcome
     requires place { ia < 0x100000 }
-    requires room { length (B.chip bus.old).accesses ≤ 1 }
-    ensures registers { regs.new ≡ (run (Agent.Cpu ia) (of_one_word count w0 ia regs.old) (B.chip bus.old)).value.registers }
-    ensures outcome { result ≡ (run (Agent.Cpu ia) (of_one_word count w0 ia regs.old) (B.chip bus.old)).value.outcome }
-    ensures chip { B.chip bus.new ≡ (run (Agent.Cpu ia) (of_one_word count w0 ia regs.old) (B.chip bus.old)).chip }
-    ensures count { length (B.chip bus.new).accesses ≤ 36 }
+    requires room { length (B.part bus.old).accesses ≤ 1 }
+    ensures steps { CpuSteps ia (of_one_word count w0 ia regs.old)
+        (B.part bus.old) regs.new result (B.part bus.new) }
+    ensures count { length (B.part bus.new).accesses ≤ 36 }
 {
     let second = bytes_behind(2, ia);
     if count == 1 {
@@ -140,13 +134,12 @@ fn execute_one_word<B: Bus>(regs: &mut Regs, bus: &mut B, count: u32, w0: u16, i
 /// It makes all its accesses, the fetches first. After a reserved word nothing but fetches was done, and PC stands.
 #[tactic(auto, unfolding(crate::specs::Instruction::instruction))]
 pub fn step<B: Bus>(regs: &mut Regs, bus: &mut B) -> Outcome
-    requires empty { (B.chip bus.old).accesses ≡ [] }
-    ensures registers { regs.new ≡ (run (Agent.Cpu (slice_index regs.old 0)) (instruction regs.old) (B.chip bus.old)).value.registers }
-    ensures outcome { result ≡ (run (Agent.Cpu (slice_index regs.old 0)) (instruction regs.old) (B.chip bus.old)).value.outcome }
-    ensures chip { B.chip bus.new ≡ (run (Agent.Cpu (slice_index regs.old 0)) (instruction regs.old) (B.chip bus.old)).chip }
-    ensures count { length (B.chip bus.new).accesses ≤ 36 }
+    requires empty { (B.part bus.old).accesses ≡ [] }
+    ensures steps { CpuSteps (instruction_address regs.old) (instruction regs.old)
+        (B.part bus.old) regs.new result (B.part bus.new) }
+    ensures count { length (B.part bus.new).accesses ≤ 36 }
 {
-    let ia = regs.get(0);
+    let ia = regs.get(PC);
     let w0 = bus.fetch(ia, ia);
     if !is_extension(w0) {
         return execute_one_word(regs, bus, length(w0, 0), w0, ia);

@@ -1,12 +1,11 @@
-ghost use Rattle.std.specs.Prelude.{◌≡◌, ◌<◌, ◌≤◌, ◌&&◌};
+ghost use Rattle.std.specs.Prelude.{◌≡◌, ◌<◌, ◌≤◌};
 ghost use Rattle.cpux_alu.specs.Operations.{GivesResult};
-ghost use Rattle.cpux_decode.specs.Places.{is_register_source};
 ghost use Rattle.cpux_decode.specs.Ranges.{IsCount, IsPlace};
-ghost use Rattle.cpux_extended.specs.RegisterForm.{count_of, one_once, one_takes_carry as one_takes_carry_of, register_source, repeated, status_in, takes_carry as takes_carry_of, two_once};
+ghost use Rattle.cpux_extended.specs.RegisterForm.{count_of, one_once, one_repeated, one_takes_carry as one_takes_carry_of, register_source, status_in, takes_carry as takes_carry_of, two_once, two_repeated};
 
 use chip_words::{Regs, Size};
 use cpux_alu::{one, two};
-use cpux_decode::{Count, Op1, Op2, Place, Rep};
+use cpux_decode::{Count, Op1, Op2, Place, Rep, SR};
 use cpux_execute::{flag, register, width};
 
 /// How many times an operation is done, 1 to 16. PC in the registers is the next address.
@@ -43,7 +42,7 @@ fn one_takes_carry(op: Op1) -> bool
 fn status(regs: &Regs, without_carry: bool) -> u16
     ensures { result ≡ status_in without_carry regs.now }
 {
-    let sr = regs.get(2) as u16;
+    let sr = regs.get(SR) as u16;
     if without_carry { sr & !1 } else { sr }
 }
 
@@ -62,7 +61,7 @@ fn source(regs: &Regs, pc: u32, from: Place) -> u32
 
 /// Does an operation of two registers once.
 #[tactic(auto, unfolding(crate::specs::RegisterForm::two_once))]
-fn do_two(regs: &mut Regs, pc: u32, op: Op2, size: Size, from: Place, to: u8, zero_carry: bool)
+fn do_two_once(regs: &mut Regs, pc: u32, op: Op2, size: Size, from: Place, to: u8, zero_carry: bool)
     requires from { IsPlace from }
     requires to { to < 16 }
     requires pc { pc < 0x100000 }
@@ -79,7 +78,7 @@ fn do_two(regs: &mut Regs, pc: u32, op: Op2, size: Size, from: Place, to: u8, ze
 
 /// Does an operation of one register once.
 #[tactic(auto, unfolding(crate::specs::RegisterForm::one_once))]
-fn do_one(regs: &mut Regs, op: Op1, size: Size, r: u8, zero_carry: bool)
+fn do_one_once(regs: &mut Regs, op: Op1, size: Size, r: u8, zero_carry: bool)
     requires operation { GivesResult op }
     requires register { r < 16 }
     ensures { regs.new ≡ one_once op size r zero_carry regs.old }
@@ -96,10 +95,10 @@ pub fn repeat_two(regs: &mut Regs, pc: u32, op: Op2, size: Size, from: Place, to
     requires to { to < 16 }
     requires pc { pc < 0x100000 }
     requires rep { IsCount rep.count }
-    ensures { regs.new ≡ repeated (count_of rep.count regs.old) (two_once op size from to rep.zero_carry pc) regs.old }
+    ensures { regs.new ≡ two_repeated op size from to rep pc regs.old }
 {
     for _ in 0..count(rep.count, regs) {
-        do_two(regs, pc, op, size, from, to, rep.zero_carry);
+        do_two_once(regs, pc, op, size, from, to, rep.zero_carry);
     }
 }
 
@@ -108,9 +107,9 @@ pub fn repeat_one(regs: &mut Regs, op: Op1, size: Size, r: u8, rep: Rep)
     requires operation { GivesResult op }
     requires register { r < 16 }
     requires rep { IsCount rep.count }
-    ensures { regs.new ≡ repeated (count_of rep.count regs.old) (one_once op size r rep.zero_carry) regs.old }
+    ensures { regs.new ≡ one_repeated op size r rep regs.old }
 {
     for _ in 0..count(rep.count, regs) {
-        do_one(regs, op, size, r, rep.zero_carry);
+        do_one_once(regs, op, size, r, rep.zero_carry);
     }
 }

@@ -1,13 +1,12 @@
-ghost use Rattle.std.specs.Prelude.{◌≡◌, ◌+◌, ◌*◌, ◌%◌, ◌<◌, ◌≤◌, length};
-ghost use Rattle.chip_words.specs.declared.accesses.Agent.{Agent};
-ghost use Rattle.chip_words.specs.Script.{run};
+ghost use Rattle.std.specs.Prelude.{◌≡◌, ◌*◌, ◌<◌, ◌≤◌, length};
 ghost use Rattle.cpux_decode.specs.Ranges.{IsPlace};
 ghost use Rattle.cpux_execute.specs.Operands.{accesses_of};
+ghost use Rattle.cpux_execute.specs.Steps.{AddsAtMost, CpuRuns};
 ghost use Rattle.cpux_extended.specs.Stack.{raised as raised_of, called, popped_many, pushed_many};
 
 use chip_words::{Bus, Regs, Size};
-use cpux_decode::Place;
-use cpux_execute::{above, below, increase, load, part, push_value, put_down, read_source};
+use cpux_decode::{PC, Place, SP};
+use cpux_execute::{above, below, increase, keep, load, push_value, put_down, read_source};
 
 /// Does PUSHM: pushes `count` registers, `reg` first and then those below it, numbered modulo 16, for the instruction
 /// at `ia` (SLAU367, chapter CPUX, PUSHM).
@@ -17,19 +16,19 @@ use cpux_execute::{above, below, increase, load, part, push_value, put_down, rea
 pub fn push_many<B: Bus>(regs: &mut Regs, bus: &mut B, ia: u32, size: Size, count: u8, reg: u8)
     requires count { count ≤ 16 }
     requires register { reg < 16 }
-    requires room { length (B.chip bus.old).accesses ≤ 4 }
-    ensures registers { regs.new ≡ (run (Agent.Cpu ia) (pushed_many size count reg regs.old) (B.chip bus.old)).value }
-    ensures chip { B.chip bus.new ≡ (run (Agent.Cpu ia) (pushed_many size count reg regs.old) (B.chip bus.old)).chip }
-    ensures count { length (B.chip bus.new).accesses ≤ length (B.chip bus.old).accesses + count * accesses_of size }
+    requires room { length (B.part bus.old).accesses ≤ 4 }
+    ensures steps { CpuRuns ia (pushed_many size count reg regs.old)
+        (B.part bus.old) regs.new (B.part bus.new) }
+    ensures count { AddsAtMost (count * accesses_of size) (B.part bus.old) (B.part bus.new) }
 {
-    let mut sp = regs.get(1);
+    let mut sp = regs.get(SP);
     let mut r = reg;
     for _ in 0..count {
         sp = below(size, sp);
-        put_down(bus, ia, sp, size, part(size, regs.get(r)));
+        put_down(bus, ia, sp, size, keep(size, regs.get(r)));
         r = (r + 15) % 16;
     }
-    regs.set(1, sp);
+    regs.set(SP, sp);
 }
 
 /// The address behind a value on the stack: 2 bytes higher, or 4 for 20 bits, modulo 2^20.
@@ -53,12 +52,12 @@ fn raise(size: Size, at: u32) -> u32
 pub fn pop_many<B: Bus>(regs: &mut Regs, bus: &mut B, ia: u32, size: Size, count: u8, reg: u8)
     requires count { count ≤ 16 }
     requires register { reg < 16 }
-    requires room { length (B.chip bus.old).accesses ≤ 4 }
-    ensures registers { regs.new ≡ (run (Agent.Cpu ia) (popped_many size count reg regs.old) (B.chip bus.old)).value }
-    ensures chip { B.chip bus.new ≡ (run (Agent.Cpu ia) (popped_many size count reg regs.old) (B.chip bus.old)).chip }
-    ensures count { length (B.chip bus.new).accesses ≤ length (B.chip bus.old).accesses + count * accesses_of size }
+    requires room { length (B.part bus.old).accesses ≤ 4 }
+    ensures steps { CpuRuns ia (popped_many size count reg regs.old)
+        (B.part bus.old) regs.new (B.part bus.new) }
+    ensures count { AddsAtMost (count * accesses_of size) (B.part bus.old) (B.part bus.new) }
 {
-    let mut at = regs.get(1);
+    let mut at = regs.get(SP);
     let mut r = reg;
     for _ in 0..count {
         let value = load(bus, ia, at, size);
@@ -66,7 +65,7 @@ pub fn pop_many<B: Bus>(regs: &mut Regs, bus: &mut B, ia: u32, size: Size, count
         at = raise(size, at);
         r = (r + 1) % 16;
     }
-    regs.set(1, at);
+    regs.set(SP, at);
 }
 
 /// Does CALLA for the instruction at `ia` (SLAU367, chapter CPUX, CALLA). `pc` is behind the instruction word, and PC
@@ -74,17 +73,17 @@ pub fn pop_many<B: Bus>(regs: &mut Regs, bus: &mut B, ia: u32, size: Size, count
 ///
 /// `CALLA @PC+` moves the next address, and pushes what it then is.
 #[tactic(auto, using(chip_words::proofs::Runs::run_then), unfolding(crate::specs::Stack::called))]
-pub fn call<B: Bus>(regs: &mut Regs, bus: &mut B, ia: u32, pc: u32, place: Place)
+pub fn call_address<B: Bus>(regs: &mut Regs, bus: &mut B, ia: u32, pc: u32, place: Place)
     requires place { IsPlace place }
     requires pc { pc < 0x100000 }
-    requires room { length (B.chip bus.old).accesses ≤ 4 }
-    ensures registers { regs.new ≡ (run (Agent.Cpu ia) (called place pc regs.old) (B.chip bus.old)).value }
-    ensures chip { B.chip bus.new ≡ (run (Agent.Cpu ia) (called place pc regs.old) (B.chip bus.old)).chip }
-    ensures count { length (B.chip bus.new).accesses ≤ length (B.chip bus.old).accesses + 4 }
+    requires room { length (B.part bus.old).accesses ≤ 4 }
+    ensures steps { CpuRuns ia (called place pc regs.old)
+        (B.part bus.old) regs.new (B.part bus.new) }
+    ensures count { AddsAtMost 4 (B.part bus.old) (B.part bus.new) }
 {
     let target = read_source(regs, bus, ia, pc, Size::Addr, place);
     increase(regs, Size::Addr, place);
-    let next = regs.get(0);
+    let next = regs.get(PC);
     push_value(regs, bus, ia, Size::Addr, next);
-    regs.set(0, target);
+    regs.set(PC, target);
 }

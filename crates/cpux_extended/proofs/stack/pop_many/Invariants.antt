@@ -7,9 +7,11 @@ use Rattle.cpux_extended.specs.Stack.{popped_from, popped_many}
 use Rattle.cpux_extended.proofs.stack.pop_many.Given as goal
 
 abbrev pub invariant-loop : goal.invariant-loop
-invariant-loop g l = let chip = g.B.Bus.chip in record {
+invariant-loop g l = let part = g.B.Bus.part in record {
   place : l.at < 0x100000;
   register : l.r < 16;
-  room : length (chip l.bus).accesses ≤ length (chip l.fn.bus).accesses + l.counter * accesses_of l.size;
-  same : run (Cpu l.fn.ia) (popped_from l.size (l.count - l.counter) l.r l.at l.regs) (chip l.bus) ≡ run (Cpu l.fn.ia) (popped_many l.size l.fn.count l.fn.reg l.fn.regs) (chip l.fn.bus);
+  room : length (part l.bus).accesses ≤ length (part l.fn.bus).accesses + l.counter * accesses_of l.size;
+  same :
+      run (Cpu l.fn.ia) (popped_from l.size (l.count - l.counter) l.r l.at l.regs) (part l.bus)
+      ≡ run (Cpu l.fn.ia) (popped_many l.size l.fn.count l.fn.reg l.fn.regs) (part l.fn.bus);
 }
