@@ -1,0 +1,4 @@
+pub mod Shapes
+pub mod Fetched
+pub mod StatusKept
+pub mod RepeatCycles

@@ -1,0 +1,4 @@
+pub mod Accesses
+pub mod Fetches
+pub mod Status
+pub mod Repeats
