@@ -1,3 +1,4 @@
+pub mod FileLemmas
 pub mod FirstBreaking
 pub mod OnTick
 pub mod Order

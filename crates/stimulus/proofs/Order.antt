@@ -9,9 +9,8 @@ use Rattle.std.proofs.lemmas.List.Sorted.{IsNonDecreasingBy-push, IsNonDecreasin
 use Rattle.std.specs.List.{list_all}
 use Rattle.std.specs.List.Sorted.{IsNonDecreasingBy}
 use Rattle.stimulus.specs.declared.events.Event.{Event}
-use Rattle.stimulus.specs.declared.TheConstants.{EVENTS_PER_TICK, MAX_END}
-use Rattle.stimulus.specs.Events.{IsPinEvent, may_follow, none_after, on_tick}
-use Rattle.stimulus.specs.Stimulus.{IsBench, Stimulus}
+use Rattle.stimulus.specs.Events.{IsPinEvent, may_follow, most_on_tick, none_after, on_tick}
+use Rattle.stimulus.specs.Stimulus.{IsBench, Stimulus, greatest_end, with_event}
 
 -- among events whose ticks don't fall, none is after a tick exactly where the last one isn't
 pub none_after-last : (tick : ℕ) (events : List Event) (last : Event) → IsNonDecreasingBy (λ (event : Event). event.tick) events → 0 < length events → ((d : Event) → last ≡ get_or events (length events - 1) d) → nat_le last.tick tick ≡ none_after tick events
@@ -37,7 +36,7 @@ none_after-empty tick [] h = refl
 none_after-empty tick (event ∷ events) h = absurd (omega arith)
 
 -- one more event on a tick that has room leaves no tick with too many
-few_on_tick-push : (events : List Event) (event : Event) (tick : ℕ) → length (on_tick event.tick events) < EVENTS_PER_TICK → length (on_tick tick events) ≤ EVENTS_PER_TICK → length (on_tick tick (events ++ event ∷ [])) ≤ EVENTS_PER_TICK
+few_on_tick-push : (events : List Event) (event : Event) (tick : ℕ) → length (on_tick event.tick events) < most_on_tick → length (on_tick tick events) ≤ most_on_tick → length (on_tick tick (events ++ event ∷ [])) ≤ most_on_tick
 unfolding on_tick
 few_on_tick-push events event tick room few =
     rw (filter-append (λ (event : Event). event.tick == tick) events (event ∷ []), length-append)
@@ -49,11 +48,11 @@ few_on_tick-push events event tick room few =
     ])
 
 -- an event that may follow makes a bench of a bench
-pub IsBench-push : (bench : Stimulus) (event : Event) → IsBench bench → IsTrue (may_follow bench.events event) → event.tick < bench.end → IsPinEvent event → IsBench (record bench { events = bench.events ++ event ∷ [] })
+pub IsBench-push : (bench : Stimulus) (event : Event) → IsBench bench → IsTrue (may_follow bench.events event) → event.tick < bench.end → IsPinEvent event → IsBench (with_event bench event)
 unfolding may_follow none_after
 IsBench-push bench event known follows before on_pin =
-    let (none_later, room) = and_parts (list_all (λ (earlier : Event). nat_le earlier.tick event.tick) bench.events) (nat_lt (length (on_tick event.tick bench.events)) EVENTS_PER_TICK) follows in
-    let has_room : length (on_tick event.tick bench.events) < EVENTS_PER_TICK = grind (arith, nat_tests) in
+    let (none_later, room) = and_parts (list_all (λ (earlier : Event). nat_le earlier.tick event.tick) bench.events) (nat_lt (length (on_tick event.tick bench.events)) most_on_tick) follows in
+    let has_room : length (on_tick event.tick bench.events) < most_on_tick = grind (arith, nat_tests) in
     record {
       some_ticks = known.some_ticks;
       few_ticks = known.few_ticks;
@@ -70,7 +69,7 @@ IsBench-pushed bench event true events known follows before on_pin e = rw e (IsB
 IsBench-pushed bench event false events known follows before on_pin e = rw e known
 
 -- a bench with no event
-pub IsBench-plain : (end fill : ℕ) (events : List Event) → 1 ≤ end → end ≤ MAX_END → fill < 256 → events ≡ [] → IsBench (record { end = end; fill = fill; events = events })
+pub IsBench-plain : (end fill : ℕ) (events : List Event) → 1 ≤ end → end ≤ greatest_end → fill < 256 → events ≡ [] → IsBench (record { end = end; fill = fill; events = events })
 unfolding on_tick
 IsBench-plain end fill events some few byte e = rw e (record {
   some_ticks = some;

@@ -2,7 +2,6 @@
 use Rattle.std.specs.Prelude.{ℕ, ◌+◌, ◌-◌, ◌≤◌, Bool, ◌&&◌, ◌==◌, nat_le, nat_lt, List, [], ◌∷◌, length, take, filter, filter_map, codes, Option, Some, None, if◌then◌else◌, is_none, option_map, option_and_then, slice_get}
 use Rattle.std.specs.List.{list_all}
 use Rattle.toml.specs.Data.{Data, Members, as_str, as_table, get_member}
-use Rattle.stimulus.specs.declared.TheConstants.{EVENTS_PER_TICK}
 use Rattle.stimulus.specs.declared.events.Event.{Event}
 use Rattle.stimulus.specs.declared.events.EventAct.{EventAct}
 use Rattle.stimulus.specs.declared.events.EventAct.TheVariants.{Pin}
@@ -89,10 +88,14 @@ on_tick tick events = filter (λ event. event.tick == tick) events
 unfoldable pub none_after : ℕ → List Event → Bool
 none_after tick events = list_all (λ event. nat_le event.tick tick) events
 
+-- the most events that come in one tick
+abbrev pub most_on_tick : ℕ
+most_on_tick = 8
+
 -- an event may stand behind others: none of them comes after its tick, and its tick has room for one more
 unfoldable pub may_follow : List Event → Event → Bool
 may_follow before event =
-    none_after event.tick before && nat_lt (length (on_tick event.tick before)) EVENTS_PER_TICK
+    none_after event.tick before && nat_lt (length (on_tick event.tick before)) most_on_tick
 
 -- the event that a value is, if it is one that may stand behind others
 abbrev pub if_follows : List Event → Event → Option Event

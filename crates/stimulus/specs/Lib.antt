@@ -1,3 +1,5 @@
 pub mod Toml
 pub mod Events
 pub mod Stimulus
+pub mod Powers
+pub mod Inside

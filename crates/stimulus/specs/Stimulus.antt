@@ -1,9 +1,10 @@
--- The bench that a TOML document is: what it has, and why a document is none.
-use Rattle.std.specs.Prelude.{ℕ, ◌<◌, ◌≤◌, ◌^◌, ◌-◌, nat_lt, min, List, [], ◌∷◌, length, All, codes, filter_map, find, Option, Some, None, if◌then◌else◌, option_map, Result, Ok, Err}
+-- The bench that a file is: what it has, and why a file is none.
+use Rattle.std.specs.Prelude.{ℕ, ◌<◌, ◌≤◌, ◌^◌, ◌-◌, nat_lt, min, List, [], ◌∷◌, ◌++◌, length, All, codes, filter_map, find, Option, Some, None, if◌then◌else◌, option_map, Result, Ok, Err}
 use Rattle.std.specs.List.{range_with_len}
 use Rattle.std.specs.List.Sorted.{IsNonDecreasingBy}
+use Rattle.std.specs.Str.{is_utf8}
 use Rattle.toml.specs.Data.{Data, Members, as_array, get_member}
-use Rattle.stimulus.specs.declared.TheConstants.{EVENTS_PER_TICK, MAX_END, MAX_EVENTS}
+use Rattle.toml.specs.Parse.{parse_document}
 use Rattle.stimulus.specs.declared.events.Event.{Event}
 use Rattle.stimulus.specs.declared.refusals.BenchRefused.{BenchRefused}
 use Rattle.stimulus.specs.declared.refusals.BenchRefused.TheVariants as refused
@@ -12,7 +13,7 @@ use Rattle.stimulus.specs.declared.refusals.BenchError.TheVariants.{Refused}
 use Rattle.stimulus.specs.declared.refusals.RootField.{RootField}
 use Rattle.stimulus.specs.declared.refusals.RootField.TheVariants as field
 use Rattle.stimulus.specs.Toml.{has_key_beside, number_at, number_within, values_of}
-use Rattle.stimulus.specs.Events.{IsPinEvent, breaks_rule, event_of, on_tick}
+use Rattle.stimulus.specs.Events.{IsPinEvent, breaks_rule, event_of, most_on_tick, on_tick}
 
 -- what a bench does to a chip: how many ticks the run has, which byte SRAM is filled with, and the events
 -- in the order of the file
@@ -21,13 +22,25 @@ pub record Stimulus : Type 0 where
   pub fill : ℕ
   pub events : List Event
 
+-- the longest run, in ticks
+abbrev pub greatest_end : ℕ
+greatest_end = 32768
+
+-- the most events that a bench has
+abbrev pub most_events : ℕ
+most_events = 10000
+
+-- a bench with another event behind its own
+abbrev pub with_event : Stimulus → Event → Stimulus
+with_event bench event = record bench { events = bench.events ++ event ∷ [] }
+
 -- what holds of every bench: ticks don't fall, few events share one, and each comes before the end
 pub record IsBench (bench : Stimulus) : Type 0 where
   pub some_ticks : 1 ≤ bench.end
-  pub few_ticks : bench.end ≤ MAX_END
+  pub few_ticks : bench.end ≤ greatest_end
   pub fill_is_byte : bench.fill < 2 ^ 8
   pub in_order : IsNonDecreasingBy (λ event. event.tick) bench.events
-  pub few_on_tick : (tick : ℕ) → length (on_tick tick bench.events) ≤ EVENTS_PER_TICK
+  pub few_on_tick : (tick : ℕ) → length (on_tick tick bench.events) ≤ most_on_tick
   pub before_end : All (λ event. event.tick < bench.end) bench.events
   pub on_pins : All IsPinEvent bench.events
 
@@ -40,7 +53,7 @@ abbrev pub version_in : Members → Option ℕ
 version_in root = number_at (codes "version") 1 1 root
 
 abbrev pub end_in : Members → Option ℕ
-end_in root = number_at (codes "end") 1 MAX_END root
+end_in root = number_at (codes "end") 1 greatest_end root
 
 -- the number at `fill`, which is 0 where it isn't there
 abbrev pub fill_at : Option Data → Option ℕ
@@ -63,7 +76,7 @@ abbrev pub with_field : {A : Type 0} → RootField → Option A → (A → Resul
 with_field name None rest = Err (refused.Field name)
 with_field name (Some value) rest = rest value
 
--- the bench of these parts, or the refusal of the first value that breaks a rule
+-- the bench of these parts, where no value breaks a rule, or the refusal of the value that breaks one
 abbrev pub judged : ℕ → ℕ → List Data → Option ℕ → Result Stimulus BenchRefused
 judged end fill values (Some index) = Err (refused.Event index)
 judged end fill values None = Ok (record { end = end; fill = fill; events = filter_map (event_of end) values })
@@ -71,6 +84,10 @@ judged end fill values None = Ok (record { end = end; fill = fill; events = filt
 -- the first index at which a value breaks a rule
 abbrev pub first_breaking : ℕ → List Data → Option ℕ
 first_breaking end values = find (breaks_rule end values) (range_with_len 0 (length values))
+
+-- the bench of these parts, or the refusal of the first value that breaks a rule
+abbrev pub bench_with : ℕ → ℕ → List Data → Result Stimulus BenchRefused
+bench_with end fill values = judged end fill values (first_breaking end values)
 
 -- a count as 32 bits hold it, which is the greatest number that they hold where they don't
 abbrev pub count_in_32_bits : ℕ → ℕ
@@ -84,13 +101,17 @@ bench_in root =
     with_field field.Fill (fill_in root) (λ fill.
     with_field field.Event (values_in root) (λ values.
     if has_key_beside root_keys root then Err (refused.Field field.Unknown)
-    else if nat_lt MAX_EVENTS (length values) then Err (refused.TooMany (count_in_32_bits (length values)))
-    else judged end fill values (first_breaking end values)))))
+    else if nat_lt most_events (length values) then Err (refused.TooMany (count_in_32_bits (length values)))
+    else bench_with end fill values))))
 
 -- the bench of a document, which is none where the bytes are no TOML
 abbrev pub bench_of : Option Members → Result Stimulus BenchRefused
 bench_of None = Err refused.NotToml
 bench_of (Some root) = bench_in root
+
+-- the bench that a file's bytes are: that of their TOML document. Bytes that are no UTF-8 are no TOML
+unfoldable pub bench_of_file : List ℕ → Result Stimulus BenchRefused
+bench_of_file bytes = if is_utf8 bytes then bench_of (parse_document bytes) else Err refused.NotToml
 
 -- a refusal as the error that it is
 abbrev pub with_error : Result Stimulus BenchRefused → Result Stimulus BenchError

@@ -1,9 +1,11 @@
-ghost use Rattle.std.specs.Prelude.{◌≡◌, ◌≤◌, ◌<◌, ◌++◌, ◌∷◌, [], All, IfOk, IsTrue, OnErr, OnOk, length};
-ghost use Rattle.stimulus.specs.Events.{IsPinEvent, may_follow, on_tick};
-ghost use Rattle.stimulus.specs.Stimulus.{IsBench};
+ghost use Rattle.std.specs.Prelude.{◌≡◌, ◌≤◌, ◌<◌, [], All, IsTrue, OnErr, OnOk, length};
+ghost use Rattle.stimulus.specs.Events.{IsPinEvent, may_follow, most_on_tick, on_tick};
+ghost use Rattle.stimulus.specs.Powers.{power_at};
+ghost use Rattle.stimulus.specs.Stimulus.{IsBench, greatest_end, with_event};
 
+use crate::EVENTS_PER_TICK;
 use crate::events::{Event, events_on_tick, none_after};
-use crate::{EVENTS_PER_TICK, MAX_END};
+use crate::powers::Power;
 use chip_words::NoMemory;
 use std::alloc::Global;
 use std::marker::Model;
@@ -19,20 +21,21 @@ pub struct Bench {
 }
 
 impl Model for Bench {
+    ghost use Rattle.stimulus.specs.Inside.{stimulus_of};
     ghost use Rattle.stimulus.specs.Stimulus.{IsBench, Stimulus};
 
     ghost Value = { Stimulus };
 
-    ghost view = { λ bench. record { end = bench.end; fill = bench.fill; events = bench.events.items } };
+    ghost view = { stimulus_of };
 
-    ghost invariant = { λ bench. IsBench (record { end = bench.end; fill = bench.fill; events = bench.events.items }) };
+    ghost invariant = { λ bench. IsBench (stimulus_of bench) };
 }
 
 impl Bench {
     /// The bench of a file that has no event.
     pub fn plain(alloc: Global, end: u32, fill: u8) -> Result<Self, NoMemory>
         requires some_ticks { 1 ≤ end }
-        requires few_ticks { end ≤ MAX_END }
+        requires few_ticks { end ≤ greatest_end }
         ensures { result ≡ Ok (record { end = end; fill = fill; events = [] }) }
     {
         Ok(Bench {
@@ -57,10 +60,17 @@ impl Bench {
         self.fill
     }
 
+    /// What the supply does in a tick.
+    pub fn power(&self, tick: u32) -> Power
+        ensures { result ≡ power_at self.now tick }
+    {
+        Power::On
+    }
+
     /// The events of a tick, in the order of the file.
     pub fn events(&self, tick: u32) -> &[Event]
         ensures events { result.now ≡ on_tick tick self.now.events }
-        ensures few { length result.now ≤ EVENTS_PER_TICK }
+        ensures few { length result.now ≤ most_on_tick }
         ensures pins { All IsPinEvent result.now }
     {
         events_on_tick(&self.events, tick)
@@ -78,7 +88,7 @@ impl Bench {
         requires follows { IsTrue (may_follow self.old.events event) }
         requires before_end { event.tick < self.old.end }
         requires on_pin { IsPinEvent event }
-        ensures ok { OnOk result (self.new ≡ record self.old { events = self.old.events ++ event ∷ [] }) }
+        ensures ok { OnOk result (self.new ≡ with_event self.old event) }
         ensures err { OnErr result (self.new ≡ self.old) }
     {
         match self.events.push(event) {

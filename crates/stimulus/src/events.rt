@@ -6,7 +6,7 @@ ghost use Rattle.stimulus.specs.Events.{none_after, on_tick};
 /// What comes to the chip from outside.
 #[derive(Clone, Copy, Debug, PartialEq, Eq)]
 pub enum EventAct {
-    /// A level on a pin: the port, from 1 to 4, its bit, from 0 to 7, and whether the level is high.
+    /// A level on a pin: the port, from 1 to 4, its bit, from 0 to 7, and whether it is high.
     Pin(u8, u8, bool),
 }
 

@@ -1,11 +1,12 @@
-//! The bench that a firmware writer gives: how long a run is, what SRAM is filled with, and what comes
-//! to the pins at which tick.
+//! The bench that a firmware writer gives: how long a run is, what SRAM is filled with, and what
+//! comes to the pins at which tick.
 //!
 //! A bench is a TOML document of the format in `docs/BENCH.md`.
 #![tactic(auto)]
 
 mod benches;
 mod events;
+mod powers;
 mod reading;
 mod refusals;
 #[cfg(test)]
@@ -14,6 +15,7 @@ mod trees;
 
 pub use benches::Bench;
 pub use events::{Event, EventAct};
+pub use powers::Power;
 pub use reading::read_bench;
 pub use refusals::{BenchError, BenchRefused, RootField};
 

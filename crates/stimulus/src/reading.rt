@@ -1,8 +1,6 @@
 ghost use Rattle.std.specs.Prelude.{◌≡◌, ◌≢◌, ◌<◌, ◌≤◌, IfSome, IsTrue, length, map, option_map};
-ghost use Rattle.std.specs.Str.{IsUtf8};
 ghost use Rattle.stimulus.specs.Events.{IsPin, IsPinEvent, event_in, event_of, may_follow, next_event, pin_in, pin_named};
-ghost use Rattle.stimulus.specs.Stimulus.{bench_in, bench_of, fill_in, first_breaking, judged, values_in, with_error};
-ghost use Rattle.toml.specs.Parse.{parse_document};
+ghost use Rattle.stimulus.specs.Stimulus.{bench_in, bench_of_file, bench_with, fill_in, greatest_end, most_events, values_in, with_error};
 ghost use Rattle.toml.specs.View.{table_view, view};
 
 use crate::benches::Bench;
@@ -81,9 +79,10 @@ fn next_event(bench: &Bench, value: &Value) -> Option<Event>
 /// The bench with these events, or the refusal of the first value that breaks a rule.
 fn judge(alloc: Global, end: u32, fill: u8, values: &[Value]) -> Result<Bench, BenchError>
     requires some_ticks { 1 ≤ end }
-    requires few_ticks { end ≤ MAX_END }
-    requires few_events { length values.now ≤ MAX_EVENTS }
-    ensures { (result ≢ Err BenchError.NoMemory) → result ≡ with_error (judged end fill (map view values.now) (first_breaking end (map view values.now))) }
+    requires few_ticks { end ≤ greatest_end }
+    requires few_events { length values.now ≤ most_events }
+    ensures { result ≢ Err BenchError.NoMemory
+        → result ≡ with_error (bench_with end fill (map view values.now)) }
 {
     let mut bench = Bench::plain(alloc, end, fill)?;
     for (index, value) in values.iter().enumerate() {
@@ -128,7 +127,8 @@ fn refuse(field: RootField) -> Result<Bench, BenchError>
 /// The bench that a root is, or its first refusal.
 #[tactic(auto, unfolding(crate::specs::Stimulus::bench_in))]
 fn bench_in(alloc: Global, root: &Table) -> Result<Bench, BenchError>
-    ensures { (result ≢ Err BenchError.NoMemory) → result ≡ with_error (bench_in (table_view root.now)) }
+    ensures { result ≢ Err BenchError.NoMemory
+        → result ≡ with_error (bench_in (table_view root.now)) }
 {
     let Some(_) = number_at(root, "version", 1, 1) else {
         return refuse(RootField::Version);
@@ -154,8 +154,8 @@ fn bench_in(alloc: Global, root: &Table) -> Result<Bench, BenchError>
 
 /// The bench that a file is, or the first refusal in the order of `BenchRefused`.
 pub fn read_bench(alloc: Global, bytes: &[u8]) -> Result<Bench, BenchError>
-    ensures text { IsUtf8 bytes.now → (result ≢ Err BenchError.NoMemory) → result ≡ with_error (bench_of (parse_document bytes.now)) }
-    ensures no_text { (IsUtf8 bytes.now → ⊥) → (result ≢ Err BenchError.NoMemory) → result ≡ Err (BenchError.Refused BenchRefused.NotToml) }
+    ensures bench { result ≢ Err BenchError.NoMemory
+        → result ≡ with_error (bench_of_file bytes.now) }
 {
     match toml::table_from_slice(alloc, bytes) {
         Ok(root) => bench_in(alloc, &root),

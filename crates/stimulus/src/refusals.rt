@@ -17,14 +17,14 @@ pub enum RootField {
     Unknown,
 }
 
-/// Why a file is no bench. Where several hold, the first in this order is given; of the root's keys the
-/// first in the order of `RootField`.
+/// Why a file is no bench. Where several hold, the first in this order is given; of the root's keys
+/// the first in the order of `RootField`.
 #[derive(Clone, Copy, Debug, PartialEq, Eq)]
 pub enum BenchRefused {
-    /// The bytes are no TOML document.
+    /// The bytes are no TOML document. Bytes that are no UTF-8 are none.
     NotToml,
-    /// This key of the root is absent though needed, of another type or out of its range. `Unknown`: a
-    /// key stands there that a bench doesn't have.
+    /// This key of the root is absent though needed, of another type or out of its range.
+    /// `Unknown`: a key stands there that a bench doesn't have.
     Field(RootField),
     /// The bench has this many events, which is more than `MAX_EVENTS`.
     TooMany(u32),

@@ -1,4 +1,4 @@
-use crate::{Bench, BenchError, BenchRefused, Event, EventAct, RootField, read_bench};
+use crate::{Bench, BenchError, BenchRefused, Event, EventAct, Power, RootField, read_bench};
 use std::alloc::Global;
 use std::test::Fail;
 
@@ -272,6 +272,7 @@ fn reads_a_bench(rt: HostRuntime) -> Result<(), Fail> {
     let plain = Bench::plain(rt.alloc(), 1, 255)?;
     assert_eq!(rt; (plain.end(), plain.fill()), (1, 255));
     assert_eq!(rt; plain.events(0), [].as_slice());
+    assert_eq!(rt; plain.power(0), Power::On);
     Ok(())
 }
 

@@ -1,7 +1,5 @@
 ghost use Rattle.std.specs.Prelude.{◌≡◌, ◌≤◌, IfSome, map, option_map};
-ghost use Rattle.std.specs.List.{list_any};
-ghost use Rattle.std.specs.Str.{bytes_eq};
-ghost use Rattle.stimulus.specs.Toml.{has_key_beside, integer_within, number_at, number_within};
+ghost use Rattle.stimulus.specs.Toml.{has_key_beside, integer_within, is_among, number_at, number_within, tree_of};
 ghost use Rattle.toml.specs.Data.{get_member};
 ghost use Rattle.toml.specs.View.{table_view, view};
 
@@ -9,7 +7,7 @@ use toml::{Table, Value};
 
 /// What a table has at a key.
 pub fn value_at<'a>(table: &'a Table, key: &str) -> Option<&'a Value>
-    ensures { option_map (λ value. view value.now) result ≡ get_member key.now (table_view table.now) }
+    ensures { option_map tree_of result ≡ get_member key.now (table_view table.now) }
 {
     table.get(key)
 }
@@ -45,7 +43,7 @@ pub fn number_at(table: &Table, key: &str, low: u32, high: u32) -> Option<u32>
 
 /// Says whether a text is one of some names.
 fn is_among(text: &str, names: &[&str]) -> bool
-    ensures { result ≡ list_any (λ name. bytes_eq name text.now) (map (λ name. name.now) names.now) }
+    ensures { result ≡ is_among (map (λ name. name.now) names.now) text.now }
 {
     names.contains(&text)
 }

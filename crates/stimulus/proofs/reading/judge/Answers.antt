@@ -1,9 +1,9 @@
-use Rattle.std.proofs.Common.{◌≡◌, ◌∙◌, ℕ, false, ◌+◌, ◌<◌, ◌≤◌, ◌∷◌, ◌++◌, [], List, length, take, get_or, filter_map, map, Some, None, Ok, refl, sym, ap, subst, arith}
+use Rattle.std.proofs.Common.{◌≡◌, ◌∙◌, ℕ, false, ◌+◌, ◌<◌, ◌≤◌, List, length, take, get_or, filter_map, map, Some, None, Ok, refl, sym, ap, subst, arith}
 use Rattle.std.proofs.lemmas.List.{get_or-map, length-map, take_all}
 use Rattle.toml.specs.Data.{Data}
 use Rattle.toml.specs.View.{view}
 use Rattle.stimulus.specs.Events.{breaks_rule, event_of, next_event}
-use Rattle.stimulus.specs.Stimulus.{Stimulus, first_breaking}
+use Rattle.stimulus.specs.Stimulus.{Stimulus, first_breaking, with_event}
 use Rattle.stimulus.proofs.FirstBreaking.{breaks_rule-refused, breaks_rule-taken, events-more, first_breaking-at, first_breaking-none}
 use Rattle.stimulus.proofs.reading.judge.Goals as goal
 use borrow.Author.Count.{below_more}
@@ -34,7 +34,7 @@ loop-index-preserved c =
     let taken = rw (← here) at read in
     let added = events-more end values index (view value) c.in-Some.event within taken in
     record {
-      so_far = c.in_ok-add.ensures.ok ∙ subst (λ (bench : Stimulus). record bench { events = bench.events ++ c.in-Some.event ∷ [] } ≡ record { end = end; fill = c.args.fill; events = filter_map (event_of end) (take (index + 1) values) }) (sym c.loop-index.invariant.so_far) (rw added refl);
+      so_far = c.in_ok-add.ensures.ok ∙ subst (λ (bench : Stimulus). with_event bench c.in-Some.event ≡ record { end = end; fill = c.args.fill; events = filter_map (event_of end) (take (index + 1) values) }) (sym c.loop-index.invariant.so_far) (rw added refl);
       none_breaks = below_more (λ (k : ℕ). breaks_rule end values k ≡ false) index c.loop-index.invariant.none_breaks (breaks_rule-taken end values index (view value) c.in-Some.event within taken);
     }
 
