@@ -1,2 +1,3 @@
 pub mod Elf
+pub mod Fram
 pub mod Image

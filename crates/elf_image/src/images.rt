@@ -1,13 +1,15 @@
-ghost use Rattle.std.specs.Prelude.{◌≡◌, ◌<◌, ◌≤◌, ℕ, IfErr, IfOk, IsTrue, false, length, map, position, slice_index};
+ghost use Rattle.std.specs.Prelude.{◌≡◌, ◌<◌, ◌≤◌, IfErr, IfOk, IsTrue, length, map, position, slice_index};
 ghost use Rattle.chip_words.specs.Map.{is_fram};
 ghost use Rattle.elf_image.specs.Elf.{header_of, header_table};
-ghost use Rattle.elf_image.specs.Image.{image_of, leaves, loaded};
+ghost use Rattle.elf_image.specs.Fram.{Keeps, OffFram, OnFram};
+ghost use Rattle.elf_image.specs.Image.{erased_byte, image_of, leaves, table_loaded};
 
 use crate::headers::{
     ELF_HEADER_SIZE, FileHeader, PROGRAM_HEADER_SIZE, ProgramHeader, begins_as_elf,
 };
 use crate::refusals::ImageRefused;
 use crate::segments::LoadSegment;
+use chip_words::fill_within;
 use memory_map::{INFO_END, INFO_START, MAIN_END, MAIN_START};
 use std::marker::Model;
 
@@ -75,8 +77,8 @@ impl<'a> Image<'a> {
     /// Writes FRAM as the image gives it into a memory by address, and leaves the rest.
     pub fn load(&self, memory: &mut [u8])
         requires { length memory.old ≡ MAIN_END }
-        ensures fram { (at : ℕ) → IsTrue (is_fram at) → slice_index memory.new at ≡ byte_of self.now at }
-        ensures others { (at : ℕ) → is_fram at ≡ false → slice_index memory.new at ≡ slice_index memory.old at }
+        ensures fram { OnFram (λ at. slice_index memory.new at ≡ byte_of self.now at) }
+        ensures others { OffFram (Keeps memory.old memory.new) }
     {
         erase(memory);
         for header in self.headers {
@@ -87,26 +89,15 @@ impl<'a> Image<'a> {
     }
 }
 
-/// Writes the byte of erased FRAM from `low` up to `high`.
-fn erase_within(memory: &mut [u8], low: u32, high: u32)
-    requires order { low ≤ high }
-    requires room { high ≤ length memory.old }
-    ensures inside { (at : ℕ) → low ≤ at → at < high → slice_index memory.new at ≡ ERASED }
-    ensures below { (at : ℕ) → at < low → slice_index memory.new at ≡ slice_index memory.old at }
-    ensures above { (at : ℕ) → high ≤ at → slice_index memory.new at ≡ slice_index memory.old at }
-{
-    memory[low as usize..high as usize].fill(ERASED);
-}
-
 /// Makes FRAM what it is where nothing was written.
 #[tactic(auto, using(crate::proofs::FramLemmas::is_fram_tells))]
 fn erase(memory: &mut [u8])
     requires { length memory.old ≡ MAIN_END }
-    ensures fram { (at : ℕ) → IsTrue (is_fram at) → slice_index memory.new at ≡ ERASED }
-    ensures others { (at : ℕ) → is_fram at ≡ false → slice_index memory.new at ≡ slice_index memory.old at }
+    ensures fram { OnFram (λ at. slice_index memory.new at ≡ erased_byte) }
+    ensures others { OffFram (Keeps memory.old memory.new) }
 {
-    erase_within(memory, INFO_START, INFO_END);
-    erase_within(memory, MAIN_START, MAIN_END);
+    fill_within(memory, INFO_START, INFO_END, ERASED);
+    fill_within(memory, MAIN_START, MAIN_END, ERASED);
 }
 
 /// The program headers of a file that nothing but a segment can refuse any more, or the refusal.
@@ -115,7 +106,7 @@ fn read_headers<'a>(file: &'a [u8]) -> Result<&'a [[u8; PROGRAM_HEADER_SIZE]], I
     ensures refused { IfErr result (λ refused. image_of file.now ≡ Err refused) }
     ensures table { IfOk result (λ headers. map header_of headers.now ≡ header_table file.now) }
     ensures few { IfOk result (λ headers. length headers.now ≤ 0xFFFF) }
-    ensures judged { IfOk result (λ headers. image_of file.now ≡ loaded file.now (position (leaves (length file.now)) (header_table file.now))) }
+    ensures judged { IfOk result (λ _. image_of file.now ≡ table_loaded file.now) }
 {
     let have = file.len();
     if have < ELF_HEADER_SIZE {

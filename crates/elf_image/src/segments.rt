@@ -1,5 +1,5 @@
-ghost use Rattle.std.specs.Prelude.{◌≡◌, ◌<◌, ◌≤◌, ◌+◌, ◌^◌, ℕ, IsTrue, drop, false, length, max, min, slice_index, take, unwrap_or};
-ghost use Rattle.chip_words.specs.Map.{is_fram};
+ghost use Rattle.std.specs.Prelude.{◌≡◌, ◌<◌, ◌≤◌, ◌+◌, ◌^◌, ℕ, drop, length, max, min, take};
+ghost use Rattle.elf_image.specs.Fram.{Keeps, OffFram, OnFram};
 
 use crate::headers::{PROGRAM_HEADER_SIZE, ProgramHeader};
 use memory_map::{INFO_END, INFO_START, MAIN_END, MAIN_START};
@@ -34,7 +34,7 @@ fn part(file: &[u8], offset: usize, size: usize) -> &[u8]
 
 impl<'a> LoadSegment<'a> {
     ghost use Rattle.elf_image.specs.Elf.{header_of};
-    ghost use Rattle.elf_image.specs.Image.{byte_in, segment_of, skipped_in};
+    ghost use Rattle.elf_image.specs.Image.{Loads, byte_in, segment_of, skipped_in};
 
     /// What a program header loads, if it is of the type that loads.
     #[tactic(auto, unfolding(crate::specs::Image::segment_of))]
@@ -83,9 +83,9 @@ impl<'a> LoadSegment<'a> {
     /// Writes the bytes that lie from `low` up to `high` into a memory by address.
     fn load_within(&self, memory: &mut [u8], low: u32, high: u32)
         requires { high ≤ length memory.old }
-        ensures inside { (at : ℕ) → low ≤ at → at < high → slice_index memory.new at ≡ unwrap_or (byte_in self.now at) (slice_index memory.old at) }
-        ensures below { (at : ℕ) → at < low → slice_index memory.new at ≡ slice_index memory.old at }
-        ensures above { (at : ℕ) → high ≤ at → slice_index memory.new at ≡ slice_index memory.old at }
+        ensures inside { (at : ℕ) → low ≤ at → at < high → Loads self.now memory.old memory.new at }
+        ensures below { (at : ℕ) → at < low → Keeps memory.old memory.new at }
+        ensures above { (at : ℕ) → high ≤ at → Keeps memory.old memory.new at }
     {
         let range = self.within(low, high);
         if range.start < range.end {
@@ -99,8 +99,8 @@ impl<'a> LoadSegment<'a> {
     #[tactic(auto, using(crate::proofs::FramLemmas::is_fram_tells))]
     pub fn load(&self, memory: &mut [u8])
         requires { length memory.old ≡ MAIN_END }
-        ensures fram { (at : ℕ) → IsTrue (is_fram at) → slice_index memory.new at ≡ unwrap_or (byte_in self.now at) (slice_index memory.old at) }
-        ensures others { (at : ℕ) → is_fram at ≡ false → slice_index memory.new at ≡ slice_index memory.old at }
+        ensures fram { OnFram (Loads self.now memory.old memory.new) }
+        ensures others { OffFram (Keeps memory.old memory.new) }
     {
         self.load_within(memory, INFO_START, INFO_END);
         self.load_within(memory, MAIN_START, MAIN_END);

@@ -136,7 +136,8 @@ fn says_why(rt: HostRuntime) -> Result<(), Fail> {
     Ok(())
 }
 
-/// The ELF header of a file with so many program headers, and with two section headers at some place.
+/// The ELF header of a file with so many program headers, and with two section headers at some
+/// place.
 fn begin_file(alloc: Global, count: u16) -> Result<Vec<u8>, AllocError> {
     let mut file = Vec::new(alloc);
     let (start, _) = FILE.split_at(44);
@@ -156,9 +157,9 @@ fn push_header(file: &mut Vec<u8>, fields: [u32; 6]) -> Result<(), AllocError> {
 
 #[test]
 fn loads(rt: HostRuntime) -> Result<(), Fail> {
-    // The headers of the file itself, which lie before main FRAM, as linkers put them; code, data that
-    // the program copies to SRAM, vectors and information FRAM; behind them two bytes of debug data
-    // and two section headers. The last header writes over one byte of the code.
+    // The headers of the file itself, which lie before main FRAM, as linkers put them; code, data
+    // that the program copies to SRAM, vectors and information FRAM; behind them two bytes of debug
+    // data and two section headers. The last header writes over one byte of the code.
     let headers = [
         [1, 0, 0x4000, 0x4000, 116, 116],
         [1, 276, 0x4400, 0x4400, 4, 4],
