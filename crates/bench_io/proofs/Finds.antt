@@ -1,9 +1,9 @@
 -- Reading one file of a shelf: its find stands at the end of the list, at the bytes that were read.
-use Rattle.std.proofs.Common.{◌≡◌, ℕ, ◌+◌, ◌^◌, ◌<◌, ◌≤◌, false, List, [], ◌∷◌, ◌++◌, map, length, take, drop, Option, Some, None, option_map, IfSome, sym, ◌∙◌, ap, arith, append-nil, length-append, length-take}
+use Rattle.std.proofs.Common.{◌≡◌, ℕ, ◌+◌, ◌^◌, ◌<◌, ◌≤◌, false, List, [], ◌∷◌, ◌++◌, length, take, drop, Option, Some, None, option_map, IfSome, sym, ◌∙◌, ap, arith, append-nil, length-append}
 use Rattle.std.proofs.lemmas.Bool.Decides.{nat_tests}
 use Rattle.std.proofs.lemmas.List.{take-append-drop, length-take-le}
-use Rattle.std.proofs.Math.Seq.{take-add, take-append_seam, drop-append_seam}
-use Rattle.bench_io.specs.Shelves.{Find, Files, is_given, find_of, moved, rest_of, places_since}
+use Rattle.std.proofs.Math.Seq.{take-add}
+use Rattle.bench_io.specs.Shelves.{Find, Files, is_given, find_of, moved, rest_of}
 
 -- the find behind those before is that of its id, where none of them has it
 pub find_of-last : (finds : List Find) (find : Find) → is_given find.id finds ≡ false → find_of find.id (finds ++ find ∷ []) ≡ Some find
@@ -45,35 +45,14 @@ front_ends (Some all) now id name bytes found (file, named, is_front) none =
     let of_file : drop (length bytes) file ≡ [] = rw named at of_name in
     named ∙ ap Some (sym (take-append-drop (length bytes) file) ∙ ap (λ rest. take (length bytes) file ++ rest) of_file ∙ append-nil (take (length bytes) file) ∙ sym is_front)
 
--- a file is as long as its front, or longer
-front_fits : (told : Option Files) (name bytes : List ℕ) (limit : ℕ) → limit < length bytes → IfSome told (λ all. IsFront all name bytes) → IfSome told (λ all. IfSome (all name) (λ file. limit < length file))
-front_fits None name bytes limit long front = tt
-front_fits (Some all) name bytes limit long (file, named, is_front) = rw named (omega (arith, simp length-take at (ap length is_front)))
-
 module _ {told : Option Files} {before now : List Find} {id : ℕ} {name bytes : List ℕ} (reading : IsReading told before now id name bytes) where
   -- the id's find stands at the bytes that were read
   pub find_of-reading : find_of id now ≡ Some (record { id = id; name = name; place = length bytes })
   find_of-reading = rw reading.stands (find_of-last before (record { id = id; name = name; place = length bytes }) reading.fresh)
 
-  -- the finds before are as they were
-  pub earlier : take (length before) now ≡ before
-  earlier = rw reading.stands (take-append_seam before (record { id = id; name = name; place = length bytes } ∷ []))
-
-  -- one find was added
-  pub adds_one : length now ≤ length before + 1
-  adds_one = rw reading.stands (simp length-append (omega arith))
-
-  -- the bytes that were read are told by the new find's place
-  pub place_of : places_since before now ≡ length bytes ∷ []
-  place_of = rw reading.stands (ap (map (λ find. find.place)) (drop-append_seam before (record { id = id; name = name; place = length bytes } ∷ [])))
-
   -- the whole file was read, where nothing is left
   pub whole_file : IfSome (rest_of told now id) (λ rest. rest ≡ []) → IfSome told (λ all. all name ≡ Some bytes)
   whole_file none = front_ends told now id name bytes find_of-reading reading.front none
-
-  -- the file has more bytes than the limit, where more were read
-  pub longer : (limit : ℕ) → limit < length bytes → IfSome told (λ all. IfSome (all name) (λ file. limit < length file))
-  longer limit long = front_fits told name bytes limit long reading.front
 
   -- n more bytes were read
   pub read_on : (n : ℕ) (piece : List ℕ) (after : List Find) → length bytes + n < 2 ^ 64 → n ≤ length piece → after ≡ moved id n now → IfSome (rest_of told now id) (λ rest. take n piece ≡ take n rest) → IsReading told before after id name (bytes ++ take n piece)

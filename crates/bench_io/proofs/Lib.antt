@@ -1,5 +1,5 @@
 pub mod FileMaps
 pub mod Finds
 pub mod Numbers
-pub mod Places
+pub mod Readings
 pub mod Writing

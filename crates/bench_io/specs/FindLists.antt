@@ -7,4 +7,5 @@ use Rattle.bench_io.specs.declared.find_list.Entry.{Entry}
 abbrev pub numbered : ℕ → List Entry → List Find
 numbered id [] = []
 numbered id (entry ∷ entries) =
-    record { id = id; name = string_bytes entry.name; place = entry.place } ∷ numbered (id + 1) entries
+    record { id = id; name = string_bytes entry.name; place = entry.place }
+    ∷ numbered (id + 1) entries

@@ -1,6 +1,9 @@
 pub mod Faults
 pub mod Shelves
 pub mod Sinks
+pub mod WholeFiles
 pub mod FindLists
 pub mod MemShelves
 pub mod MemSinks
+pub mod Edge
+pub mod WriterSinks

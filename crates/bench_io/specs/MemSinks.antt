@@ -1,7 +1,8 @@
 -- What a sink in memory is.
 use Rattle.std.specs.Prelude.{ℕ, List, []}
 
--- the bytes written, how many fit, the numbers of the calls that are to fail, and the counts of calls and of faults
+-- the bytes written, how many fit, the numbers of the calls that are to fail, and the counts of
+-- calls and of faults
 pub record MemSinkState : Type 0 where
   pub bytes : List ℕ
   pub room : ℕ

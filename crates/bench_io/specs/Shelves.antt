@@ -1,5 +1,5 @@
 -- What a shelf means: what its names stand for, and how far each file that was found was read.
-use Rattle.std.specs.Prelude.{ℕ, ◌+◌, ◌-◌, ◌^◌, min, Bool, if◌then◌else◌, ◌==◌, List, [], ◌∷◌, length, drop, map, Option, Some, None, option_map}
+use Rattle.std.specs.Prelude.{ℕ, ◌+◌, ◌-◌, ◌^◌, min, Bool, if◌then◌else◌, ◌==◌, List, [], ◌∷◌, drop, Option, Some, None, option_map}
 use Rattle.std.specs.List.{list_any}
 use Rattle.bench_io.specs.declared.shelves.Found.{Found}
 use Rattle.bench_io.specs.declared.shelves.Found.TheVariants.{Here, Absent, Failed}
@@ -11,6 +11,10 @@ pub record Find : Type 0 where
   pub id : ℕ
   pub name : List ℕ
   pub place : ℕ
+
+-- how many ids a shelf can give: a `u32` counts them
+abbrev pub most_finds : ℕ
+most_finds = 2 ^ 32 - 1
 
 -- what each name stands for
 abbrev pub Files : Type 0
@@ -29,7 +33,8 @@ find_of id (find ∷ finds) = if find.id == id then Some find else find_of id fi
 abbrev pub moved : ℕ → ℕ → List Find → List Find
 moved id n [] = []
 moved id n (find ∷ finds) =
-    record find { place = if find.id == id then min (find.place + n) (2 ^ 64 - 1) else find.place } ∷ moved id n finds
+    record find { place = if find.id == id then min (find.place + n) (2 ^ 64 - 1) else find.place }
+    ∷ moved id n finds
 
 -- what is left to read of a find's file
 abbrev pub rest_at : Files → Option Find → Option (List ℕ)
@@ -40,10 +45,6 @@ rest_at files (Some find) = option_map (drop find.place) (files find.name)
 abbrev pub rest_of : Option Files → List Find → ℕ → Option (List ℕ)
 rest_of None finds id = None
 rest_of (Some files) finds id = rest_at files (find_of id finds)
-
--- how far each find that was added since was read
-abbrev pub places_since : List Find → List Find → List ℕ
-places_since before after = map (λ find. find.place) (drop (length before) after)
 
 -- a fact of the id that was given, if the answer is one
 abbrev pub IfHere : Found → (ℕ → Type 0) → Type 0

@@ -10,7 +10,8 @@ appended (Some old) bytes = Some (old ++ bytes)
 
 -- only a front of the text was written
 abbrev pub AppendsFront : Option (List ℕ) → Option (List ℕ) → List ℕ → Type 0
-AppendsFront before after text = (n : ℕ) × (n ≤ length text) × (after ≡ appended before (take n text))
+AppendsFront before after text =
+    (n : ℕ) × (n ≤ length text) × (after ≡ appended before (take n text))
 
 -- a fact of how many bytes were taken
 abbrev pub IfTaken : Took → (ℕ → Type 0) → Type 0

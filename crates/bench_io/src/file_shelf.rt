@@ -1,11 +1,10 @@
-ghost use Rattle.std.specs.Prelude.{◌≡◌, ◌↔◌, List, [], length, vec_len, None, IfOk};
+ghost use Rattle.std.specs.Prelude.{◌≡◌, [], None, IfOk};
 
-use crate::find_list::FindList;
 use crate::memory::NoMemory;
+use crate::open_files::OpenFiles;
 use crate::shelves::{Found, Got, Shelf};
 use std::alloc::Global;
 use std::fs::File;
-use std::io::{ErrorKind, Read};
 
 /// The files of the machine, named by their paths.
 ///
@@ -14,10 +13,7 @@ use std::io::{ErrorKind, Read};
 pub struct FileShelf {
     rt: HostRuntime,
     alloc: Global,
-    files: Vec<File>,
-    finds: FindList,
-    faults: u64,
-    ghost paired: { vec_len files ≡ length finds },
+    opened: OpenFiles<File>,
 }
 
 impl FileShelf {
@@ -32,9 +28,7 @@ impl FileShelf {
         Ok(FileShelf {
             rt,
             alloc,
-            files: Vec::new(alloc),
-            finds: FindList::new(alloc),
-            faults: 0,
+            opened: OpenFiles::new(alloc),
         })
     }
 }
@@ -42,73 +36,16 @@ impl FileShelf {
 impl Shelf for FileShelf {
     ghost files = { λ shelf. None };
 
-    ghost finds = { λ shelf. shelf.finds };
+    ghost finds = { λ shelf. shelf.opened.finds };
 
-    ghost faults = { λ shelf. shelf.faults };
+    ghost faults = { λ shelf. shelf.opened.faults };
 
     fn find(&mut self, name: &str) -> Found {
-        if self.finds.is_full() {
-            self.faults = self.faults.saturating_add(1);
-            return Found::Failed;
-        }
-        let file = match File::open(&self.rt, name) {
-            Ok(file) => file,
-            Err(error) => match refusal_of(error.kind()) {
-                Refusal::Absent => return Found::Absent,
-                Refusal::NoMemory => return Found::NoMemory,
-                Refusal::Fault => {
-                    self.faults = self.faults.saturating_add(1);
-                    return Found::Failed;
-                }
-            },
-        };
-        let Ok(name) = String::from_str(self.alloc, name) else {
-            return Found::NoMemory;
-        };
-        let Ok(()) = self.files.push(file) else {
-            return Found::NoMemory;
-        };
-        match self.finds.add(name) {
-            Ok(id) => Found::Here(id),
-            Err(NoMemory) => {
-                self.files.pop();
-                Found::NoMemory
-            }
-        }
+        let opened = File::open(&self.rt, name);
+        self.opened.keep(self.alloc, name, opened)
     }
 
     fn read(&mut self, id: u32, buf: &mut [u8]) -> Got {
-        let file = &mut self.files[self.finds.position(id)];
-        match file.read(buf) {
-            Ok(n) => {
-                self.finds.raise(id, n);
-                Got::Count(n)
-            }
-            Err(_) => {
-                self.faults = self.faults.saturating_add(1);
-                Got::Failed
-            }
-        }
-    }
-}
-
-/// Why a file wasn't opened.
-enum Refusal {
-    Absent,
-    NoMemory,
-    Fault,
-}
-
-/// What an error of opening a file says.
-///
-/// A file in the place of a folder and a right that lacks are faults.
-fn refusal_of(kind: ErrorKind) -> Refusal
-    ensures absent { (result ≡ Refusal.Absent) ↔ (kind ≡ ErrorKind.NotFound) }
-    ensures memory { (result ≡ Refusal.NoMemory) ↔ (kind ≡ ErrorKind.OutOfMemory) }
-{
-    match kind {
-        ErrorKind::NotFound => Refusal::Absent,
-        ErrorKind::OutOfMemory => Refusal::NoMemory,
-        _ => Refusal::Fault,
+        self.opened.read(id, buf)
     }
 }

@@ -1,5 +1,5 @@
 ghost use Rattle.std.specs.Prelude.{◌≡◌, ◌<◌, ◌≤◌, ◌↔◌, [], ◌∷◌, ◌++◌, length, Some, false, string_bytes, IsTrue, IfOk, OnErr};
-ghost use Rattle.bench_io.specs.Shelves.{is_given, find_of, moved};
+ghost use Rattle.bench_io.specs.Shelves.{most_finds, is_given, find_of, moved};
 
 use crate::memory::NoMemory;
 use std::alloc::Global;
@@ -22,16 +22,15 @@ pub struct FindList {
 
 impl Model for FindList {
     ghost use Rattle.std.specs.Prelude.{List, ◌≤◌, vec_len};
-    ghost use Rattle.bench_io.specs.Shelves.{Find};
+    ghost use Rattle.bench_io.specs.Shelves.{Find, most_finds};
 
     ghost Value = { List Find };
 
     ghost use Rattle.bench_io.specs.FindLists.{numbered};
-    ghost use Rattle.bench_io.specs.declared.find_list.TheConstants.{MOST_FINDS};
 
     ghost view = { λ list. numbered 0 list.entries.items };
 
-    ghost invariant = { λ list. vec_len list.entries ≤ MOST_FINDS };
+    ghost invariant = { λ list. vec_len list.entries ≤ most_finds };
 }
 
 #[tactic(auto, using(crate::proofs::Numbers::number_laws))]
@@ -46,15 +45,15 @@ impl FindList {
 
     /// Says whether every id was given.
     pub fn is_full(&self) -> bool
-        ensures full { IsTrue result ↔ (length self.now ≡ MOST_FINDS) }
-        ensures within { length self.now ≤ MOST_FINDS }
+        ensures full { IsTrue result ↔ (length self.now ≡ most_finds) }
+        ensures within { length self.now ≤ most_finds }
     {
         self.entries.len() == MOST_FINDS as usize
     }
 
     /// Adds a find, at place 0, and gives its id.
     pub fn add(&mut self, name: String) -> Result<u32, NoMemory>
-        requires { length self.old < MOST_FINDS }
+        requires { length self.old < most_finds }
         ensures ok { IfOk result (λ id.
             self.new ≡ self.old ++ record { id = id; name = string_bytes name; place = 0 } ∷ []) }
         ensures new { IfOk result (λ id. is_given id self.old ≡ false) }

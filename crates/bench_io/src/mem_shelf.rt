@@ -1,10 +1,10 @@
 ghost use Rattle.std.specs.Prelude.{◌≡◌, ◌≢◌, ℕ, ◌+◌, ◌-◌, ◌<◌, ◌≤◌, ◌⊎◌, ◌↔◌, min, List, [], ◌∷◌, ◌++◌, length, take, drop, false, Some, None, IsTrue, IsSome, IfSome, IfOk, OnOk, OnErr, Contains};
 ghost use Rattle.bench_io.specs.Faults.{raised};
-ghost use Rattle.bench_io.specs.Shelves.{is_given, moved, IfHere, UnlessHere, IfAbsent, IfFailed, UnlessFailed, IfCount, IfNoBytes};
+ghost use Rattle.bench_io.specs.Shelves.{most_finds, is_given, moved, IfHere, UnlessHere, IfAbsent, IfFailed, UnlessFailed, IfCount, IfNoBytes};
 ghost use Rattle.bench_io.specs.MemShelves.{file_named, empty_shelf, rest_in};
 
 use crate::file_map::FileMap;
-use crate::find_list::{FindList, MOST_FINDS};
+use crate::find_list::FindList;
 use crate::memory::NoMemory;
 use crate::shelves::{Found, Got, Shelf};
 use std::alloc::Global;
@@ -87,7 +87,8 @@ impl Shelf for MemShelf {
     fn find(&mut self, name: &str) -> Found
         // The call's number is listed, or no id is left.
         ensures exactly { (result ≡ Found.Failed)
-            ↔ (Contains self.old.failing (raised self.old.calls) ⊎ (length self.old.finds ≡ MOST_FINDS)) }
+            ↔ (Contains self.old.failing (raised self.old.calls)
+            ⊎ (length self.old.finds ≡ most_finds)) }
 
         ensures here { IfHere result (λ id. self.new ≡ record self.old {
           finds = self.old.finds ++ record { id = id; name = name.now; place = 0 } ∷ [];

@@ -1,7 +1,10 @@
+use crate::open_files::OpenFiles;
 use crate::{
     FileRefused, FileShelf, Found, Got, MemShelf, MemSink, PutFailed, Shelf, Sink, StdSink, Took,
-    put_all, read_file,
+    WriterSink, put_all, read_file,
 };
+use std::io;
+use std::io::{ErrorKind, Read, Write};
 use std::test::Fail;
 
 const TEXT: &[u8; 12] = b"0 ON\n2 BOOT\n";
@@ -83,7 +86,8 @@ fn writes_a_front_where_the_room_ends(rt: HostRuntime) -> Result<(), Fail> {
     Ok(())
 }
 
-/// Files that every machine of the kind has: an empty one, one that never ends, and a folder.
+/// Files that every machine of the kind has: an empty one, one that never ends, one whose first
+/// byte can't be read, and a folder.
 #[test]
 fn reads_files_of_the_machine(rt: HostRuntime) -> Result<(), Fail> {
     let alloc = rt.alloc();
@@ -91,6 +95,7 @@ fn reads_files_of_the_machine(rt: HostRuntime) -> Result<(), Fail> {
     for (name, want) in [
         ("/dev/null", None),
         ("/dev/zero", Some(FileRefused::TooLong)),
+        ("/proc/self/mem", Some(FileRefused::ReadFault)),
         ("/dev/none", Some(FileRefused::Absent)),
         ("/dev/null/none", Some(FileRefused::ReadFault)),
         ("/dev", Some(FileRefused::ReadFault)),
@@ -117,5 +122,107 @@ fn writes_to_standard_output(rt: HostRuntime) -> Result<(), Fail> {
     let mut sink = StdSink::build(&rt, rt.alloc())?;
     assert_eq!(rt; sink.put(b""), Took::Count(0));
     assert_eq!(rt; put_all(&mut sink, TEXT), Ok(()));
+    Ok(())
+}
+
+/// A file of a byte over and over, whose reads fail once it has given two of them.
+#[derive(Drop)]
+struct Broken {
+    byte: u8,
+    given: usize,
+}
+
+impl Read for Broken {
+    fn read(&mut self, buf: &mut [u8]) -> io::Result<usize> {
+        if self.given >= 2 {
+            return Err(io::Error::from(ErrorKind::Other));
+        }
+        if buf.is_empty() {
+            return Ok(0);
+        }
+        buf[0] = self.byte;
+        self.given += 1;
+        Ok(1)
+    }
+}
+
+/// Each of three files is read once it is kept, behind the others. A fault is no end of a file.
+#[test]
+fn reads_open_files(rt: HostRuntime) -> Result<(), Fail> {
+    let alloc = rt.alloc();
+    let mut open = OpenFiles::new(alloc);
+    for (byte, given, want, read, faults) in [
+        (1, 0, Got::Count(1), 1, 0),
+        (2, 2, Got::Failed, 0, 1),
+        (3, 1, Got::Count(1), 3, 1),
+    ] {
+        let mut buf = [0u8; 2];
+        match open.keep(alloc, "a", Ok(Broken { byte, given })) {
+            Found::Here(id) => assert_eq!(rt; open.read(id, &mut buf), want),
+            found => assert_eq!(rt; found, Found::Absent, "in place of an id"),
+        }
+        assert_eq!(rt; buf, [read, 0]);
+        assert_eq!(rt; open.faults(), faults);
+    }
+    Ok(())
+}
+
+/// What an error of opening says. The kinds that aren't named are faults.
+#[test]
+fn refuses_files_that_are_not_opened(rt: HostRuntime) -> Result<(), Fail> {
+    let mut open: OpenFiles<Broken> = OpenFiles::new(rt.alloc());
+    for (kind, want, faults) in [
+        (ErrorKind::NotFound, Found::Absent, 0),
+        (ErrorKind::PermissionDenied, Found::Failed, 1),
+        (ErrorKind::OutOfMemory, Found::NoMemory, 1),
+        (ErrorKind::Interrupted, Found::Failed, 2),
+        (ErrorKind::NotADirectory, Found::Failed, 3),
+    ] {
+        assert_eq!(rt;
+            open.keep(rt.alloc(), "a", Err(io::Error::from(kind))),
+            want
+        );
+        assert_eq!(rt; open.faults(), faults);
+    }
+    Ok(())
+}
+
+/// An output that takes three bytes at most, and fails once it has taken eight.
+#[derive(Drop)]
+struct Short {
+    taken: usize,
+}
+
+impl Write for Short {
+    fn write(&mut self, buf: &[u8]) -> io::Result<usize> {
+        let room = 8usize.saturating_sub(self.taken);
+        if room == 0 {
+            return Err(io::Error::from(ErrorKind::StorageFull));
+        }
+        let n = buf.len().min(3).min(room);
+        self.taken = self.taken.saturating_add(n);
+        Ok(n)
+    }
+
+    fn flush(&mut self) -> io::Result<()> {
+        Ok(())
+    }
+}
+
+/// A short write is told as it is, and one that fails is no write of none.
+#[test]
+fn writes_pieces_as_they_are_taken(rt: HostRuntime) -> Result<(), Fail> {
+    let mut sink = WriterSink::new(Short { taken: 0 });
+    for (piece, want, count) in [
+        ("0 ON", Took::Count(3), 0),
+        ("", Took::Count(0), 0),
+        ("0 ON", Took::Count(3), 0),
+        ("0 ON", Took::Count(2), 0),
+        ("0 ON", Took::Failed, 1),
+        ("", Took::Count(0), 1),
+    ] {
+        assert_eq!(rt; sink.put(piece.as_bytes()), want);
+        assert_eq!(rt; sink.faults(), count);
+    }
     Ok(())
 }

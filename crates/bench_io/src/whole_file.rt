@@ -1,6 +1,7 @@
-ghost use Rattle.std.specs.Prelude.{◌≡◌, ◌+◌, ◌^◌, ◌<◌, ◌≤◌, ◌↔◌, [], ◌∷◌, length, take, vec_len, slice_index, None, Some, IfOk, IsTrue, IfSome, IsErrOf};
+ghost use Rattle.std.specs.Prelude.{◌≡◌, ◌+◌, ◌^◌, ◌<◌, ◌≤◌, [], length, take, IfOk, IfErr, IsTrue, IfSome};
 ghost use Rattle.bench_io.specs.Faults.{Rose};
-ghost use Rattle.bench_io.specs.Shelves.{is_given, moved, rest_of, places_since, IfCount, IfNoBytes};
+ghost use Rattle.bench_io.specs.WholeFiles.{IsRead, IsRefused, shelf_view};
+ghost use Rattle.bench_io.specs.Shelves.{is_given, moved, rest_of, IfCount, IfNoBytes};
 
 use crate::shelves::{Found, Got, Shelf};
 use std::alloc::Global;
@@ -36,7 +37,8 @@ impl fmt::Display for FileRefused {
 
 impl Error for FileRefused {}
 
-/// Reads a whole file of at most `limit` bytes. No more than one byte past the limit is read.
+/// Reads a whole file of at most `limit` bytes. No more than one byte past the limit is read, and nothing
+/// more is asked of the shelf behind a call that failed.
 pub fn read_file<S: Shelf>(
     alloc: Global,
     shelf: &mut S,
@@ -44,28 +46,14 @@ pub fn read_file<S: Shelf>(
     limit: usize,
 ) -> Result<Vec<u8>, FileRefused>
     requires { limit < 2 ^ 32 }
-    ensures files { S.files shelf.new ≡ S.files shelf.old }
-    ensures later { S.faults shelf.old ≤ S.faults shelf.new }
-
-    // The list of finds keeps what it held, and has at most one find more.
-    ensures earlier { take (length (S.finds shelf.old)) (S.finds shelf.new) ≡ S.finds shelf.old }
-    ensures one { length (S.finds shelf.new) ≤ length (S.finds shelf.old) + 1 }
-    ensures stops { slice_index (places_since (S.finds shelf.old) (S.finds shelf.new)) 0 ≤ limit + 1 }
-
-    ensures told { IfOk result (λ bytes.
-        IfSome (S.files shelf.old) (λ all. all name.now ≡ Some bytes.items)) }
-    ensures place { IfOk result (λ bytes.
-        places_since (S.finds shelf.old) (S.finds shelf.new) ≡ vec_len bytes ∷ []) }
-    ensures uncounted { IfOk result (λ bytes. S.faults shelf.new ≡ S.faults shelf.old) }
-
-    ensures absent { IsErrOf result FileRefused.Absent →
-        IfSome (S.files shelf.old) (λ all. all name.now ≡ None) }
-    ensures fault { IsErrOf result FileRefused.ReadFault →
-        Rose (S.faults shelf.old) (S.faults shelf.new) }
-    ensures too_long { IsErrOf result FileRefused.TooLong
-        ↔ (limit < slice_index (places_since (S.finds shelf.old) (S.finds shelf.new)) 0) }
-    ensures long { IsErrOf result FileRefused.TooLong → IfSome (S.files shelf.old)
-        (λ all. IfSome (all name.now) (λ file. limit < length file)) }
+    ensures read { IfOk result (λ bytes. IsRead
+        (shelf_view (S.files shelf.old) (S.finds shelf.old) (S.faults shelf.old))
+        (shelf_view (S.files shelf.new) (S.finds shelf.new) (S.faults shelf.new))
+        name.now limit bytes.items) }
+    ensures ended { IfErr result (λ refused. IsRefused
+        (shelf_view (S.files shelf.old) (S.finds shelf.old) (S.faults shelf.old))
+        (shelf_view (S.files shelf.new) (S.finds shelf.new) (S.faults shelf.new))
+        name.now limit refused) }
 {
     let id = match shelf.find(name) {
         Found::Here(id) => id,

@@ -1,7 +1,7 @@
-use Rattle.std.proofs.Common.{◌≡◌, ◌+◌, ◌^◌, ◌<◌, ◌≤◌, [], ◌∷◌, ◌++◌, length, take, slice_index, vec_len, refl, ap, ◌∙◌, arith}
+use Rattle.std.proofs.Common.{◌≡◌, ◌+◌, ◌^◌, ◌<◌, ◌≤◌, ◌++◌, length, take, vec_len, ◌∙◌, inl, inr, arith}
 use Rattle.std.proofs.lemmas.List.{length-take-le}
-use Rattle.bench_io.specs.Shelves.{places_since}
-use Rattle.bench_io.proofs.Finds.{IsReading, read_on, earlier, adds_one, place_of, length_read, whole_file, longer}
+use Rattle.bench_io.proofs.Finds.{IsReading, read_on, length_read, whole_file}
+use Rattle.bench_io.proofs.Readings.{stands_at, longer_told, same_view}
 use Rattle.bench_io.proofs.whole_file.read_file.Given.{Over}
 use Rattle.bench_io.proofs.whole_file.read_file.Goals as goal
 use Rattle.bench_io.proofs.whole_file.read_file.Goals.{In-Count}
@@ -21,57 +21,6 @@ module _ (g : Over) (c : In-Count g) where
   so_far : length (c.pieces.bytes.items ++ take c.in-Count.n c.read_piece.new.piece) ≡ vec_len c.pieces.bytes + c.in-Count.n
   so_far = omega (arith, length_read c.in-Count.n c.pieces.bytes.items c.read_piece.new.piece within, c.pieces.bytes.ok.0)
 
-  place : places_since (g.S.Shelf.finds c.args.shelf.now) (g.S.Shelf.finds c.read_piece.new.shelf) ≡ (vec_len c.pieces.bytes + c.in-Count.n) ∷ []
-  place = place_of after ∙ ap (λ n. n ∷ []) so_far
-
-  first_place : slice_index (places_since (g.S.Shelf.finds c.args.shelf.now) (g.S.Shelf.finds c.read_piece.new.shelf)) 0 ≡ vec_len c.pieces.bytes + c.in-Count.n
-  first_place = ap (λ places. slice_index places 0) place
-
-pub returns-then-n-eq0-clause-earlier : goal.returns-then-n-eq0-clause-earlier
-returns-then-n-eq0-clause-earlier g c = earlier (after g ((goal.at.returns-then-n-eq0-clause-earlier g c).In-Count))
-
-pub returns-then-n-eq0-clause-one : goal.returns-then-n-eq0-clause-one
-returns-then-n-eq0-clause-one g c = adds_one (after g ((goal.at.returns-then-n-eq0-clause-one g c).In-Count))
-
-pub returns-then-n-eq0-clause-stops : goal.returns-then-n-eq0-clause-stops
-returns-then-n-eq0-clause-stops g c = omega (arith, first_place g ((goal.at.returns-then-n-eq0-clause-stops g c).In-Count), c.in-Count.ensures.within)
-
-pub returns-then-n-limit-clause-earlier : goal.returns-then-n-limit-clause-earlier
-returns-then-n-limit-clause-earlier g c = earlier (after g ((goal.at.returns-then-n-limit-clause-earlier g c).In-Count))
-
-pub returns-then-n-limit-clause-one : goal.returns-then-n-limit-clause-one
-returns-then-n-limit-clause-one g c = adds_one (after g ((goal.at.returns-then-n-limit-clause-one g c).In-Count))
-
-pub returns-then-n-limit-clause-stops : goal.returns-then-n-limit-clause-stops
-returns-then-n-limit-clause-stops g c = omega (arith, first_place g ((goal.at.returns-then-n-limit-clause-stops g c).In-Count), c.in-Count.ensures.within)
-
-pub returns-in-Err-clause-earlier : goal.returns-in-Err-clause-earlier
-returns-in-Err-clause-earlier g c = earlier (after g ((goal.at.returns-in-Err-clause-earlier g c).In-Count))
-
-pub returns-in-Err-clause-one : goal.returns-in-Err-clause-one
-returns-in-Err-clause-one g c = adds_one (after g ((goal.at.returns-in-Err-clause-one g c).In-Count))
-
-pub returns-in-Err-clause-stops : goal.returns-in-Err-clause-stops
-returns-in-Err-clause-stops g c = omega (arith, first_place g ((goal.at.returns-in-Err-clause-stops g c).In-Count), c.in-Count.ensures.within)
-
-pub returns-then-n-eq0-clause-told : goal.returns-then-n-eq0-clause-told
-returns-then-n-eq0-clause-told g c = whole_file c.pieces.invariant.reading (rw c.pieces.invariant.same at (c.in-Count.ensures.end c.if-n-eq0.true))
-
-pub returns-then-n-eq0-clause-place : goal.returns-then-n-eq0-clause-place
-returns-then-n-eq0-clause-place g c = place g ((goal.at.returns-then-n-eq0-clause-place g c).In-Count) ∙ ap (λ n. n ∷ []) (omega arith)
-
-pub returns-then-n-eq0-clause-too_long : goal.returns-then-n-eq0-clause-too_long
-returns-then-n-eq0-clause-too_long g c = (λ refused. cc, λ long. absurd (omega (arith, first_place g ((goal.at.returns-then-n-eq0-clause-too_long g c).In-Count), long)))
-
-pub returns-then-n-limit-clause-too_long : goal.returns-then-n-limit-clause-too_long
-returns-then-n-limit-clause-too_long g c = (λ refused. omega (arith, first_place g ((goal.at.returns-then-n-limit-clause-too_long g c).In-Count)), λ long. refl)
-
-pub returns-then-n-limit-clause-long : goal.returns-then-n-limit-clause-long
-returns-then-n-limit-clause-long g c = λ refused. longer (after g ((goal.at.returns-then-n-limit-clause-long g c).In-Count)) c.args.limit (omega (arith, so_far g ((goal.at.returns-then-n-limit-clause-long g c).In-Count)))
-
-pub returns-in-Err-clause-too_long : goal.returns-in-Err-clause-too_long
-returns-in-Err-clause-too_long g c = (λ refused. cc, λ long. absurd (omega (arith, first_place g ((goal.at.returns-in-Err-clause-too_long g c).In-Count), long)))
-
 pub pieces-preserved : goal.pieces-preserved
 pieces-preserved g c = record {
   reading = rw c.in-Ok.ensures.items (after g ((goal.at.pieces-preserved g c).In-Count));
@@ -79,3 +28,79 @@ pieces-preserved g c = record {
   uncounted = c.in-Count.ensures.uncounted ∙ c.pieces.invariant.uncounted;
   within = omega (arith, c.in-Ok.ensures.len, length-take-le c.in-Count.n c.read_piece.new.piece (within g ((goal.at.pieces-preserved g c).In-Count)));
 }
+
+pub returns-in-Absent-clause-ended : goal.returns-in-Absent-clause-ended
+returns-in-Absent-clause-ended g c = record {
+  told = c.in-Absent.ensures.absent;
+  nothing = same_view _ _ _ _ _ _ c.in-Absent.ensures.files c.in-Absent.ensures.unmoved c.in-Absent.ensures.uncounted;
+}
+
+pub returns-in-Failed-clause-ended : goal.returns-in-Failed-clause-ended
+returns-in-Failed-clause-ended g c =
+    (record { find = inl c.in-Failed.ensures.unmoved; same = c.in-Failed.ensures.files }, c.in-Failed.ensures.failed)
+
+pub returns-in-NoMemory-clause-ended : goal.returns-in-NoMemory-clause-ended
+returns-in-NoMemory-clause-ended g c =
+    (record { find = inl c.in-NoMemory.ensures.unmoved; same = c.in-NoMemory.ensures.files }, c.in-NoMemory.ensures.uncounted)
+
+-- a read failed
+pub returns-in-Failed-read_piece-clause-ended : goal.returns-in-Failed-read_piece-clause-ended
+returns-in-Failed-read_piece-clause-ended g c = (
+  record {
+    find = inr (
+      length c.pieces.bytes.items,
+      omega (arith, c.pieces.invariant.within, c.pieces.bytes.ok.0),
+      record {
+        id = c.in-Here.id;
+        last = c.in-Failed-read_piece.ensures.unmoved ∙ c.pieces.invariant.reading.stands;
+      },
+    );
+    same = c.in-Failed-read_piece.ensures.files ∙ c.pieces.invariant.same;
+  },
+  rw c.pieces.invariant.uncounted at c.in-Failed-read_piece.ensures.failed,
+)
+
+-- nothing is left of a file that was read to its end
+pub returns-then-n-eq0-clause-read : goal.returns-then-n-eq0-clause-read
+returns-then-n-eq0-clause-read g c =
+    let counted = (goal.at.returns-then-n-eq0-clause-read g c).In-Count in
+    record {
+      find = record {
+        id = c.in-Here.id;
+        last = stands_at _ _ _ _ _ _ _ (after g counted) (omega (arith, so_far g counted, c.if-n-eq0.true, c.pieces.bytes.ok.0));
+      };
+      told = whole_file c.pieces.invariant.reading (rw c.pieces.invariant.same at (c.in-Count.ensures.end c.if-n-eq0.true));
+      within = omega (arith, c.pieces.invariant.within, c.pieces.bytes.ok.0);
+      same = c.in-Count.ensures.files ∙ c.pieces.invariant.same;
+      uncounted = c.in-Count.ensures.uncounted ∙ c.pieces.invariant.uncounted;
+    }
+
+pub returns-then-n-limit-clause-ended : goal.returns-then-n-limit-clause-ended
+returns-then-n-limit-clause-ended g c =
+    let counted = (goal.at.returns-then-n-limit-clause-ended g c).In-Count in
+    record {
+      find = record {
+        id = c.in-Here.id;
+        last = stands_at _ _ _ _ _ _ _ (after g counted) (omega (arith, so_far g counted, c.if-n-limit.true, c.in-Count.ensures.within, c.pieces.invariant.within));
+      };
+      told = longer_told _ _ _ _ (omega (arith, so_far g counted, c.if-n-limit.true, c.pieces.invariant.within)) (after g counted).front;
+      same = c.in-Count.ensures.files ∙ c.pieces.invariant.same;
+      uncounted = c.in-Count.ensures.uncounted ∙ c.pieces.invariant.uncounted;
+    }
+
+pub returns-in-Err-clause-ended : goal.returns-in-Err-clause-ended
+returns-in-Err-clause-ended g c =
+    let counted = (goal.at.returns-in-Err-clause-ended g c).In-Count in (
+      record {
+        find = inr (
+          vec_len c.pieces.bytes + c.in-Count.n,
+          omega (arith, c.if-n-limit.false, c.pieces.invariant.within),
+          record {
+            id = c.in-Here.id;
+            last = stands_at _ _ _ _ _ _ _ (after g counted) (so_far g counted);
+          },
+        );
+        same = c.in-Count.ensures.files ∙ c.pieces.invariant.same;
+      },
+      c.in-Count.ensures.uncounted ∙ c.pieces.invariant.uncounted,
+    )
