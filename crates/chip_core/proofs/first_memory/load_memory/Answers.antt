@@ -4,7 +4,7 @@ use Rattle.std.specs.Prelude.{slice_index, if◌then◌else◌}
 use Rattle.chip_words.specs.Map.{is_fram, is_sram}
 use Rattle.elf_image.specs.Image.{byte_of}
 use Rattle.chip_core.proofs.FirstMemory.{loaded_back}
-use Rattle.chip_core.proofs.flat_bus.load_memory.Goals as goal
+use Rattle.chip_core.proofs.first_memory.load_memory.Goals as goal
 
 pub returns-in-Ok-clause-memory : goal.returns-in-Ok-clause-memory
 returns-in-Ok-clause-memory c =

@@ -1,0 +1,40 @@
+-- What the fabric means, and words for what its calls do.
+use Rattle.std.specs.Prelude.{◌≡◌, ℕ, ◌+◌, ◌≤◌, length}
+use Rattle.chip_words.specs.Access.{Accessed}
+use Rattle.chip_words.specs.BusPart.{BusPart}
+use Rattle.chip_words.specs.Units.{Units}
+use Rattle.chip_core.specs.declared.fabric.Fabric.{Fabric}
+
+abbrev pub units_of : Fabric → Units
+units_of fabric = record { sys = fabric.sys; ports = fabric.ports; timers = fabric.timers }
+
+-- no unit that notes violations is built
+abbrev pub bus_part_of : Fabric → BusPart
+bus_part_of fabric = record {
+  memory = (fabric.memory).items;
+  units = units_of fabric;
+  fill = fabric.fill;
+  budget = fabric.budget;
+  writes = fabric.writes;
+  noted = 0;
+  accesses = (fabric.accesses).items;
+  causes = fabric.causes;
+  stop = fabric.stop;
+}
+
+-- the bus part changes so
+abbrev pub Changes : (BusPart → BusPart) → Fabric → Fabric → Type 0
+Changes change old new = bus_part_of new ≡ change (bus_part_of old)
+
+-- the units change so, and nothing else does
+abbrev pub ChangesUnits : (Units → Units) → Fabric → Fabric → Type 0
+ChangesUnits change old new = bus_part_of new ≡ record (bus_part_of old) { units = change (units_of old) }
+
+-- an access answers, and leaves the bus part, so
+pub record Accesses (access : BusPart → Accessed) (old : Fabric) (answer : ℕ) (new : Fabric) : Type 0 where
+  pub answers : answer ≡ (access (bus_part_of old)).answer
+  pub leaves : bus_part_of new ≡ (access (bus_part_of old)).part
+
+-- at most one access joins the list of the step
+abbrev pub ListsOne : Fabric → Fabric → Type 0
+ListsOne old new = length (bus_part_of new).accesses ≤ length (bus_part_of old).accesses + 1

@@ -1,0 +1,114 @@
+//! The registers of the peripherals, and what comes to them and goes out from them besides accesses.
+
+ghost use Rattle.std.specs.Prelude.{◌≡◌, ◌<◌, ◌≤◌, IfSome};
+ghost use Rattle.chip_words.specs.Bits.{part_of};
+ghost use Rattle.chip_words.specs.Causes.{least_cause};
+ghost use Rattle.chip_words.specs.Interrupts.{units_entered, units_lines};
+ghost use Rattle.chip_words.specs.Sizes.{IsByteOrWord, span};
+ghost use Rattle.chip_words.specs.Units.{units_at_reset, units_cause, units_clocked, units_driven, units_touched, units_written, word_of};
+ghost use Rattle.port_unit.specs.Pins.{pins_of};
+
+use crate::fabric::Fabric;
+use chip_words::{Size, UnitName, VECTORS, WATCHDOG_INTERVAL, WATCHDOG_LINE, unit_at};
+use port_unit::Pins;
+
+impl Fabric {
+    ghost use Rattle.chip_core.specs.Fabric.{ChangesUnits, units_of};
+
+    /// A BOR or a PUC of the peripherals, with its cause.
+    pub fn reset(&mut self, bor: bool, cause: u8)
+        ensures units { ChangesUnits (units_at_reset bor cause) self.old self.new }
+    {
+        self.sys.reset(bor);
+        self.sys.taken(cause);
+        self.ports.reset(bor);
+        self.timers.reset(bor);
+    }
+
+    /// The least cause that is requested.
+    pub fn pending(&self) -> Option<u8>
+        ensures cause { result ≡ least_cause ((units_of self.now).sys).requested }
+    {
+        self.sys.pending()
+    }
+
+    /// The interrupt lines, of which bit i is line i.
+    #[tactic(auto, unfolding(chip_words::specs::Interrupts::units_lines, chip_words::specs::Ports::ports_lines))]
+    pub fn lines(&self) -> u16
+        ensures lines { result ≡ units_lines (units_of self.now) }
+    {
+        self.sys.lines() + self.ports.lines()
+    }
+
+    /// An interrupt was entered: the flag of its line is cleared, where the line has a single one.
+    #[tactic(auto, unfolding(chip_words::specs::Interrupts::units_entered))]
+    pub fn entered(&mut self, vector: u32)
+        ensures units { ChangesUnits (units_entered vector) self.old self.new }
+    {
+        if vector == VECTORS[WATCHDOG_LINE as usize] {
+            self.sys.entered(WATCHDOG_LINE);
+        }
+    }
+
+    /// Sets the external level of pin `bit`, 0 to 7, of a port, 1 to 4.
+    pub fn drive(&mut self, port: u8, bit: u8, level: bool)
+        requires port { (1 ≤ port) × (port ≤ 4) }
+        requires bit { bit < 8 }
+        ensures units { ChangesUnits (units_driven port bit level) self.old self.new }
+    {
+        self.ports.drive(port, bit, level, self.sys.locked());
+    }
+
+    /// The clock edges of a tick, each of which is there or isn't.
+    pub fn clock(&mut self, smclk: bool, aclk: bool)
+        ensures units { ChangesUnits (units_clocked smclk aclk) self.old self.new }
+    {
+        let fired = self.timers.tick(smclk, aclk);
+        if fired.interval {
+            self.sys.interval();
+        }
+        if fired.reset {
+            self.sys.request(WATCHDOG_INTERVAL);
+        }
+    }
+
+    /// The pins, as the outside sees them while power is on.
+    pub fn pins(&self) -> Pins
+        ensures pins { result ≡ pins_of (units_of self.now).ports ((units_of self.now).sys).locked }
+    {
+        self.ports.pins(self.sys.locked())
+    }
+
+    /// A read of a register.
+    #[tactic(auto, unfolding(chip_words::specs::Units::word_of, chip_words::specs::Units::units_touched))]
+    pub(crate) fn read_register(&mut self, at: u32, size: Size) -> u32
+        requires width { IsByteOrWord size }
+        ensures small { result < span size }
+        ensures answer { result ≡ part_of size at (word_of (units_of self.old) at) }
+        ensures units { ChangesUnits (λ units. units_touched units at) self.old self.new }
+    {
+        match unit_at(at) {
+            Some(UnitName::Sys) => self.sys.read(at, size),
+            Some(UnitName::Timers) => self.timers.read(at, size),
+            Some(UnitName::Ports) => self.ports.read(at, size, self.sys.locked()),
+            None => 0,
+        }
+    }
+
+    /// A write of a register, and the cause of the reset that it asks for.
+    #[tactic(auto, unfolding(chip_words::specs::Units::units_written, chip_words::specs::Units::units_cause))]
+    pub(crate) fn write_register(&mut self, at: u32, size: Size, value: u32) -> Option<u8>
+        requires width { IsByteOrWord size }
+        requires fits { value < span size }
+        ensures cause { result ≡ units_cause (units_of self.old) at size value }
+        ensures number { IfSome result (λ cause. cause < 65) }
+        ensures units { ChangesUnits (λ units. units_written units at size value) self.old self.new }
+    {
+        match unit_at(at) {
+            Some(UnitName::Sys) => self.sys.write(at, size, value),
+            Some(UnitName::Timers) => self.timers.write(at, size, value),
+            Some(UnitName::Ports) => self.ports.write(at, size, value),
+            None => None,
+        }
+    }
+}
