@@ -8,11 +8,11 @@ use Rattle.trace_print.specs.Lines.{IsPrintable}
 use Rattle.chip_core.specs.declared.boots.Place.{Place}
 use Rattle.chip_core.specs.declared.boots.Place.TheVariants.{Start, Sig, Done}
 use Rattle.port_unit.specs.declared.pins.Pins.{Pins}
-use Rattle.port_unit.specs.Pins.{levels_of, port_of}
+use Rattle.port_unit.specs.Pins.{levels_of, same_levels}
 use Rattle.stimulus.specs.Stimulus.{Stimulus}
 use Rattle.chip_core.specs.State.{State}
-use Rattle.chip_core.specs.Pins.{pins_of, pin_lines, port_line, same_pins}
-use Rattle.chip_core.specs.Tick.{owned, ready, reset, taken_cause}
+use Rattle.chip_core.specs.Pins.{pins_of, pin_lines, port_line}
+use Rattle.chip_core.specs.Tick.{Moments, moments, taken_cause}
 use Rattle.chip_core.specs.Lines.{boot_lines, dead_lines, is_restart, lines_of, power_lines, reset_lines, turn_lines}
 
 none : All IsPrintable []
@@ -33,7 +33,7 @@ either false xs ys p q = q
 port_line-IsPrintable : (port : ℕ) (before after : Pins) → 1 ≤ port → port ≤ 4 → All IsPrintable (port_line port before after)
 unfolding port_line
 port_line-IsPrintable port before after low high =
-    either (same_pins (port_of port before) (port_of port after)) [] (Pin port (levels_of after port) ∷ []) none (one (Pin port (levels_of after port)) (low, high))
+    either (same_levels (levels_of before port) (levels_of after port)) [] (Pin port (levels_of after port) ∷ []) none (one (Pin port (levels_of after port)) (low, high))
 
 boot_lines-IsPrintable : (place : Option Place) → All IsPrintable (boot_lines place)
 boot_lines-IsPrintable (Some Done) = one (Boot 0 0 0) (omega arith, omega arith)
@@ -68,6 +68,6 @@ turn_lines-IsPrintable place cause before after =
 pub printable : (bench : Stimulus) (chip : State) → All IsPrintable (lines_of bench chip)
 unfolding lines_of
 printable bench chip =
-    let moved : State = owned (ready bench chip) in
-    All-append IsPrintable (power_lines chip) (turn_lines (ready bench chip).boot (taken_cause moved) (pins_of chip) (reset moved)) (either chip.powered [] (On ∷ []) none (one On tt))
-    (turn_lines-IsPrintable (ready bench chip).boot (taken_cause moved) (pins_of chip) (reset moved))
+    let tick : Moments = moments bench chip in
+    All-append IsPrintable (power_lines tick.before) (turn_lines (tick.ready).boot (taken_cause (tick.turn).chip) (pins_of tick.before) tick.after) (either (tick.before).powered [] (On ∷ []) none (one On tt))
+    (turn_lines-IsPrintable (tick.ready).boot (taken_cause (tick.turn).chip) (pins_of tick.before) tick.after)

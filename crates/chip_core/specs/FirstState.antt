@@ -4,6 +4,7 @@ use Rattle.std.specs.List.{range_with_len}
 use Rattle.chip_words.specs.Map.{is_fram, is_sram}
 use Rattle.chip_words.specs.Memory.{memory_size}
 use Rattle.chip_words.specs.Registers.{no_registers}
+use Rattle.chip_words.specs.Causes.{no_causes}
 use Rattle.chip_words.specs.Sys.{first_sys}
 use Rattle.chip_words.specs.Ports.{first_ports}
 use Rattle.chip_words.specs.Timers.{first_timers}
@@ -36,7 +37,9 @@ first_bus image fill = record {
   fill = fill;
   budget = None;
   writes = 0;
+  noted = 0;
   accesses = [];
+  causes = no_causes;
   stop = false;
 }
 

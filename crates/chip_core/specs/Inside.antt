@@ -1,7 +1,6 @@
 -- The record that a chip's fields stand for.
-use Rattle.std.specs.Prelude.{◌≡◌, []}
 use Rattle.chip_core.specs.declared.chips.Chip.TheInside.{Inside}
-use Rattle.chip_core.specs.FlatBus.{bus_part_of}
+use Rattle.chip_core.specs.Fabric.{bus_part_of}
 use Rattle.chip_core.specs.State.{State}
 
 abbrev pub state_of : Inside → State
@@ -14,7 +13,3 @@ state_of chip = record {
   dead = chip.dead;
   tick = chip.tick;
 }
-
--- no access of a step is listed
-abbrev pub IsBetweenSteps : Inside → Type 0
-IsBetweenSteps chip = (bus_part_of chip.fabric).accesses ≡ []

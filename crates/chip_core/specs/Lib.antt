@@ -1,10 +1,11 @@
-pub mod FlatBus
-pub mod Kinds
+pub mod Fabric
 pub mod Boot
 pub mod Entry
 pub mod State
 pub mod FirstState
 pub mod Pins
+pub mod Turns
 pub mod Tick
 pub mod Lines
 pub mod Inside
+pub mod Run

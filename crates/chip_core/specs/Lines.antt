@@ -8,7 +8,7 @@ use Rattle.port_unit.specs.declared.pins.Pins.{Pins}
 use Rattle.stimulus.specs.Stimulus.{Stimulus}
 use Rattle.chip_core.specs.State.{State}
 use Rattle.chip_core.specs.Pins.{pins_of, pin_lines}
-use Rattle.chip_core.specs.Tick.{owned, ready, reset, taken_cause}
+use Rattle.chip_core.specs.Tick.{Moments, moments, taken_cause}
 
 -- ON: power came on
 abbrev pub power_lines : State → List TraceItem
@@ -40,7 +40,11 @@ turn_lines place cause before after =
     if (after.bus).stop then Stop ∷ []
     else boot_lines place ++ reset_lines cause ++ dead_lines place cause after ++ pin_lines before (pins_of after)
 
+-- the lines of a tick, by its moments
+abbrev pub lines_at : Moments → List TraceItem
+lines_at tick =
+    power_lines tick.before
+    ++ turn_lines (tick.ready).boot (taken_cause (tick.turn).chip) (pins_of tick.before) tick.after
+
 unfoldable pub lines_of : Stimulus → State → List TraceItem
-lines_of bench chip =
-    power_lines chip
-    ++ turn_lines (ready bench chip).boot (taken_cause (owned (ready bench chip))) (pins_of chip) (reset (owned (ready bench chip)))
+lines_of bench chip = lines_at (moments bench chip)

@@ -1,9 +1,9 @@
 -- The pins of the chip, and the lines that tell of their changes.
-use Rattle.std.specs.Prelude.{ℕ, ◌==◌, ◌&&◌, Bool, if◌then◌else◌, List, [], ◌∷◌, ◌++◌}
+use Rattle.std.specs.Prelude.{ℕ, if◌then◌else◌, List, [], ◌∷◌, ◌++◌}
 use Rattle.trace_print.specs.declared.items.TraceItem.{TraceItem}
 use Rattle.trace_print.specs.declared.items.TraceItem.TheVariants.{Pin}
 use Rattle.port_unit.specs.declared.pins.Pins.{Pins}
-use Rattle.port_unit.specs.Pins.{levels_of, pins_of as pins_of_ports, port_of}
+use Rattle.port_unit.specs.Pins.{levels_of, pins_of as pins_of_ports, same_levels}
 use Rattle.chip_core.specs.State.{State}
 
 -- without power no pin is driven
@@ -14,14 +14,10 @@ open_pins = record { driven = 0; high = 0 }
 unfoldable pub pins_of : State → Pins
 pins_of chip = if chip.powered then pins_of_ports (((chip.bus).units).ports) (((chip.bus).units).sys).locked else open_pins
 
--- two ports whose driven and high pins are the same have the same levels
-abbrev pub same_pins : Pins → Pins → Bool
-same_pins one other = one.driven == other.driven && one.high == other.high
-
 -- the line of a port whose levels changed
 unfoldable pub port_line : ℕ → Pins → Pins → List TraceItem
 port_line port before after =
-    if same_pins (port_of port before) (port_of port after) then [] else Pin port (levels_of after port) ∷ []
+    if same_levels (levels_of before port) (levels_of after port) then [] else Pin port (levels_of after port) ∷ []
 
 abbrev pub pin_lines : Pins → Pins → List TraceItem
 pin_lines before after = port_line 1 before after ++ port_line 2 before after ++ port_line 3 before after ++ port_line 4 before after

@@ -32,9 +32,9 @@ const SIGNATURE: u32 = 0xAAAA;
 /// Does one step of a boot.
 #[tactic(auto, unfolding(crate::specs::Boot::boot_step))]
 pub fn step<B: Bus>(place: Place, bus: &mut B) -> BootStep
-    requires empty { (B.chip bus.old).accesses ≡ [] }
-    ensures value { result ≡ (run Agent.Boot (boot_step place) (B.chip bus.old)).value }
-    ensures chip { B.chip bus.new ≡ (run Agent.Boot (boot_step place) (B.chip bus.old)).chip }
+    requires empty { (B.part bus.old).accesses ≡ [] }
+    ensures value { result ≡ (run Agent.Boot (boot_step place) (B.part bus.old)).value }
+    ensures part { B.part bus.new ≡ (run Agent.Boot (boot_step place) (B.part bus.old)).part }
 {
     match place {
         Place::Start => BootStep::Going(Place::Sig),

@@ -4,11 +4,16 @@
 use arrayvec::ArrayVec;
 use trace_print::TraceItem;
 
+mod accesses;
 mod boots;
 mod chips;
 mod entries;
-mod flat_bus;
+mod fabric;
+mod first_memory;
+mod lines;
+mod peripherals;
 mod pin_lines;
+mod turns;
 
 pub use chips::Chip;
 

@@ -24,7 +24,7 @@ fn tell_port(port: u8, before: Pins, now: Pins, lines: &mut Lines)
     ensures lines { lines.new.items ≡ lines.old.items ++ port_line port before now }
     ensures count { array_vec_len lines.new ≤ array_vec_len lines.old + 1 }
 {
-    if before.of_port(port) != now.of_port(port) {
+    if !before.has_same_levels(&now, port) {
         lines.push(TraceItem::Pin(port, now.levels(port)));
     }
 }

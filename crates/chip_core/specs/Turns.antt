@@ -1,0 +1,153 @@
+-- The turn of the bus owner: a step of the boot until it is done, and then an interrupt or an instruction.
+use Rattle.std.specs.Prelude.{ℕ, ◌-◌, ◌==◌, nat_lt, Bool, true, false, if◌then◌else◌, List, Option, Some, None, slice_index}
+use Rattle.chip_words.specs.declared.sizes.Size.TheVariants.{Word}
+use Rattle.chip_words.specs.declared.accesses.Agent.TheVariants.{Cpu, Entry, Boot}
+use Rattle.chip_words.specs.Bits.{has_bit}
+use Rattle.chip_words.specs.Memory.{loaded}
+use Rattle.chip_words.specs.Registers.{CPUOFF, GIE, PC, SR, with_register}
+use Rattle.chip_words.specs.Causes.{RESERVED_WORD, least_cause, lesser_cause}
+use Rattle.chip_words.specs.Interrupts.{accepted, units_entered, units_lines}
+use Rattle.chip_words.specs.BusPart.{BusPart}
+use Rattle.chip_words.specs.Access.{sys_asked}
+use Rattle.chip_words.specs.Script.{Ran, run}
+use Rattle.chip_words.specs.Steps.{begun}
+use Rattle.chip_core.specs.declared.boots.Place.{Place}
+use Rattle.chip_core.specs.declared.boots.BootStep.{BootStep}
+use Rattle.chip_core.specs.declared.boots.BootStep.TheVariants.{Going, Ended, NotBuilt}
+use Rattle.cpux_execute.specs.declared.outcomes.Outcome.{Outcome}
+use Rattle.cpux_execute.specs.declared.outcomes.Outcome.TheVariants.{Cycles, Reserved}
+use Rattle.cpux_execute.specs.Execution.{Stepped}
+use Rattle.cpux_extended.specs.Instruction.{instruction}
+use Rattle.chip_core.specs.Boot.{boot_step}
+use Rattle.chip_core.specs.Entry.{entry}
+use Rattle.chip_core.specs.State.{State}
+
+-- what the owner made of its turn. The list of the step's accesses, and the causes that they requested, still stand in
+-- the bus part.
+pub record Turn : Type 0 where
+  pub chip : State
+  -- the vector of the interrupt that was entered
+  pub vector : Option ℕ
+  -- the places of the step's violations
+  pub noted : ℕ
+  -- the least cause that the step requested
+  pub cause : Option ℕ
+
+-- a turn without an instruction and an entry
+abbrev pub without_step : State → Turn
+without_step chip = record { chip = chip; vector = None; noted = 0; cause = None }
+
+-- what isn't built yet ends the run
+abbrev pub stopped : State → State
+stopped chip = record chip { bus = record (chip.bus) { stop = true } }
+
+-- the address of the reset vector (SLAS704, interrupt vector table), and the word of one that was never written
+abbrev pub RESET_VECTOR : ℕ
+RESET_VECTOR = 0xFFFE
+
+abbrev pub no_vector : ℕ
+no_vector = 0xFFFF
+
+abbrev pub reset_vector : State → ℕ
+reset_vector chip = loaded (chip.bus.memory) RESET_VECTOR Word
+
+-- PC is the reset vector; a vector that was never written leaves the processor dead
+abbrev pub at_reset_vector : State → State
+at_reset_vector chip = record chip {
+  registers = with_register chip.registers PC (reset_vector chip);
+  dead = reset_vector chip == no_vector;
+}
+
+-- what a boot step leads to
+abbrev pub after_boot_step : BootStep → State → State
+after_boot_step (Going place) chip = record chip { boot = Some place }
+after_boot_step Ended chip = record (at_reset_vector chip) { boot = None }
+after_boot_step NotBuilt chip = stopped chip
+
+abbrev pub boot_turn_from : Ran BootStep → State → State
+boot_turn_from ran chip = after_boot_step ran.value (record chip { bus = ran.part })
+
+unfoldable pub boot_turn : Place → State → State
+boot_turn place chip = boot_turn_from (run Boot (boot_step place) (begun chip.bus)) chip
+
+-- a reserved word asks for a reset, besides those that the accesses of its step request
+abbrev pub reserved_cause : Outcome → Option ℕ
+reserved_cause (Cycles cycles) = None
+reserved_cause Reserved = Some RESERVED_WORD
+
+-- the processor is busy with an instruction for its cycles, of which the first is the tick that made it
+abbrev pub busy_after : Outcome → ℕ
+busy_after (Cycles cycles) = cycles - 1
+busy_after Reserved = 0
+
+-- a reset is asked for behind the accesses, if there is a cause
+abbrev pub asked : Option ℕ → BusPart → BusPart
+asked cause part = record part { units = sys_asked cause part.units }
+
+abbrev pub instructed_from : Ran Stepped → State → Turn
+instructed_from ran chip = record {
+  chip = record chip {
+    bus = asked (reserved_cause (ran.value).outcome) ran.part;
+    registers = (ran.value).registers;
+    busy = busy_after (ran.value).outcome;
+  };
+  vector = None;
+  noted = (ran.part).noted;
+  cause = lesser_cause (least_cause (ran.part).causes) (reserved_cause (ran.value).outcome);
+}
+
+-- the instruction at PC
+unfoldable pub instructed : State → Turn
+instructed chip =
+    instructed_from (run (Cpu (slice_index chip.registers PC)) (instruction chip.registers) (begun chip.bus)) chip
+
+-- the processor does nothing
+abbrev pub is_off : State → Bool
+is_off chip = has_bit (slice_index chip.registers SR) CPUOFF
+
+abbrev pub takes_interrupts : State → Bool
+takes_interrupts chip = has_bit (slice_index chip.registers SR) GIE
+
+-- the vector of the interrupt that is accepted; nothing that is built requests an NMI
+abbrev pub accepted_by : State → Option ℕ
+accepted_by chip = accepted (units_lines (chip.bus.units)) (takes_interrupts chip) false
+
+-- an entry takes so many cycles
+abbrev pub entry_cycles : ℕ
+entry_cycles = 6
+
+-- behind its accesses an entry clears the flag of its line
+abbrev pub entered_from : ℕ → Ran (List ℕ) → State → Turn
+entered_from vector ran chip = record {
+  chip = record chip {
+    bus = record (ran.part) { units = units_entered vector (ran.part.units) };
+    registers = ran.value;
+    busy = entry_cycles - 1;
+  };
+  vector = Some vector;
+  noted = (ran.part).noted;
+  cause = least_cause (ran.part).causes;
+}
+
+unfoldable pub entered : ℕ → State → Turn
+entered vector chip = entered_from vector (run Entry (entry vector chip.registers) (begun chip.bus)) chip
+
+-- an interrupt that is accepted comes before the instruction, and wakes a processor that is off
+abbrev pub free_turn : Option ℕ → State → Turn
+free_turn (Some vector) chip = entered vector chip
+free_turn None chip = if is_off chip then without_step chip else instructed chip
+
+-- the processor's turn
+unfoldable pub processor_turn : State → Turn
+processor_turn chip =
+    if nat_lt 0 chip.busy then without_step (record chip { busy = chip.busy - 1 })
+    else if chip.dead then without_step chip
+    else free_turn (accepted_by chip) chip
+
+abbrev pub owner_turn : Option Place → State → Turn
+owner_turn (Some place) chip = without_step (boot_turn place chip)
+owner_turn None chip = processor_turn chip
+
+-- one owner has the bus: the boot until it is done, and then the processor
+unfoldable pub owned : State → Turn
+owned chip = owner_turn chip.boot chip

@@ -1,0 +1,67 @@
+//! The lines that a tick adds.
+
+ghost use Rattle.std.specs.Prelude.{◌≡◌, ◌+◌, ◌≤◌, ◌++◌};
+ghost use Rattle.arrayvec.specs.ArrayVec.{array_vec_len};
+ghost use Rattle.chip_core.specs.Lines.{boot_lines, dead_lines, reset_lines, turn_lines};
+
+use crate::Lines;
+use crate::boots::Place;
+use crate::chips::Chip;
+use crate::pin_lines::tell_changes;
+use port_unit::Pins;
+use trace_print::TraceItem;
+
+impl Chip {
+    /// Adds what the tick shows behind its stimulus, from the place of the boot, the cause that was taken,
+    /// and the pins before it.
+    pub(crate) fn tell(
+        &self,
+        place: Option<Place>,
+        cause: Option<u8>,
+        before: Pins,
+        lines: &mut Lines,
+    )
+        requires room { array_vec_len lines.old ≤ 10 }
+        ensures lines { lines.new.items ≡ lines.old.items ++ turn_lines place cause before self.now }
+    {
+        if self.is_stopped() {
+            lines.push(TraceItem::Stop);
+        } else {
+            tell_boot(place, lines);
+            tell_reset(cause, lines);
+            self.tell_dead(place, cause, lines);
+            tell_changes(before, self.pins(), lines);
+        }
+    }
+
+    fn tell_dead(&self, place: Option<Place>, cause: Option<u8>, lines: &mut Lines)
+        requires room { array_vec_len lines.old ≤ 12 }
+        ensures lines { lines.new.items ≡ lines.old.items ++ dead_lines place cause self.now }
+        ensures count { array_vec_len lines.new ≤ array_vec_len lines.old + 1 }
+    {
+        let is_restart = cause.is_some() || place == Some(Place::Done);
+        if is_restart && self.dead {
+            lines.push(TraceItem::Dead);
+        }
+    }
+}
+
+fn tell_boot(place: Option<Place>, lines: &mut Lines)
+    requires room { array_vec_len lines.old ≤ 10 }
+    ensures lines { lines.new.items ≡ lines.old.items ++ boot_lines place }
+    ensures count { array_vec_len lines.new ≤ array_vec_len lines.old + 1 }
+{
+    if let Some(Place::Done) = place {
+        lines.push(TraceItem::Boot(0, 0, 0));
+    }
+}
+
+fn tell_reset(cause: Option<u8>, lines: &mut Lines)
+    requires room { array_vec_len lines.old ≤ 11 }
+    ensures lines { lines.new.items ≡ lines.old.items ++ reset_lines cause }
+    ensures count { array_vec_len lines.new ≤ array_vec_len lines.old + 1 }
+{
+    if let Some(cause) = cause {
+        lines.push(TraceItem::Reset(cause));
+    }
+}

@@ -1,0 +1,131 @@
+//! The turn of the bus owner.
+
+ghost use Rattle.std.specs.Prelude.{◌≡◌, ◌<◌};
+ghost use Rattle.chip_core.specs.Turns.{accepted_by, at_reset_vector, boot_turn, entered, free_turn, instructed, is_off as is_off_state, owned, processor_turn, takes_interrupts as takes_interrupts_state};
+
+use crate::boots::{self, BootStep, Place};
+use crate::chips::Chip;
+use crate::entries;
+use chip_words::{PC, RESERVED_WORD};
+use cpux_extended::{Outcome, step};
+use interrupt_reset::best;
+
+/// The word of a vector that was never written.
+const NO_VECTOR: u32 = 0xFFFF;
+
+/// The ticks of an entry behind its first.
+const BUSY_ENTRY: u32 = 5;
+
+// Bits of SR.
+
+const GIE: u32 = 3;
+
+const CPUOFF: u32 = 4;
+
+impl Chip {
+    /// The turn of the bus owner: the boot until it is done, and then the processor.
+    #[tactic(auto, unfolding(crate::specs::Turns::owned))]
+    pub(crate) fn own(&mut self)
+        ensures chip { self.new ≡ (owned self.old).chip }
+    {
+        match self.boot {
+            Some(place) => self.step_boot(place),
+            None => self.turn(),
+        }
+    }
+
+    /// One step of the boot.
+    #[tactic(auto, unfolding(crate::specs::Turns::boot_turn))]
+    fn step_boot(&mut self, place: Place)
+        ensures chip { self.new ≡ boot_turn place self.old }
+    {
+        self.fabric.begin_step();
+        match boots::step(place, &mut self.fabric) {
+            BootStep::Going(place) => self.boot = Some(place),
+            BootStep::Ended => self.start(),
+            BootStep::NotBuilt => self.fabric.stop(),
+        }
+    }
+
+    /// Ends the boot.
+    fn start(&mut self)
+        ensures chip { self.new ≡ record (at_reset_vector self.old) { boot = None } }
+    {
+        self.load_vector();
+        self.boot = None;
+    }
+
+    /// PC is the reset vector, and where there is none the processor is dead.
+    pub(crate) fn load_vector(&mut self)
+        ensures chip { self.new ≡ at_reset_vector self.old }
+    {
+        let vector = self.fabric.reset_vector();
+        self.regs.set(PC, vector);
+        self.dead = vector == NO_VECTOR;
+    }
+
+    /// The processor's turn.
+    #[tactic(auto, unfolding(crate::specs::Turns::processor_turn))]
+    fn turn(&mut self)
+        ensures chip { self.new ≡ (processor_turn self.old).chip }
+    {
+        if self.busy > 0 {
+            self.busy -= 1;
+        } else if !self.dead {
+            self.turn_freely();
+        }
+    }
+
+    /// The turn of a processor that isn't busy: an interrupt, or an instruction.
+    fn turn_freely(&mut self)
+        ensures chip { self.new ≡ (free_turn (accepted_by self.old) self.old).chip }
+    {
+        match best(self.fabric.lines(), self.takes_interrupts(), false) {
+            Some(vector) => self.enter(vector),
+            None => {
+                if !self.is_off() {
+                    self.instruct();
+                }
+            }
+        }
+    }
+
+    fn takes_interrupts(&self) -> bool
+        ensures enable { result ≡ takes_interrupts_state self.now }
+    {
+        self.has_status(GIE)
+    }
+
+    fn is_off(&self) -> bool
+        ensures off { result ≡ is_off_state self.now }
+    {
+        self.has_status(CPUOFF)
+    }
+
+    /// Executes one instruction.
+    #[tactic(auto, unfolding(crate::specs::Turns::instructed))]
+    fn instruct(&mut self)
+        ensures chip { self.new ≡ (instructed self.old).chip }
+    {
+        self.fabric.begin_step();
+        match step(&mut self.regs, &mut self.fabric) {
+            Outcome::Cycles(cycles) => self.busy = cycles.saturating_sub(1),
+            Outcome::Reserved => {
+                self.fabric.ask(RESERVED_WORD);
+                self.busy = 0;
+            }
+        }
+    }
+
+    /// Enters the interrupt of a vector.
+    #[tactic(auto, unfolding(crate::specs::Turns::entered))]
+    fn enter(&mut self, vector: u32)
+        requires place { vector < 0x100000 }
+        ensures chip { self.new ≡ (entered vector self.old).chip }
+    {
+        self.fabric.begin_step();
+        entries::enter(&mut self.regs, &mut self.fabric, vector);
+        self.fabric.entered(vector);
+        self.busy = BUSY_ENTRY;
+    }
+}
