@@ -1,3 +1,3 @@
 pub mod Texts
 pub mod Benches
-pub mod Files
+pub mod Calls

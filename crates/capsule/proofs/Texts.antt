@@ -6,39 +6,49 @@ use Rattle.trace_print.specs.declared.items.TraceItem.{TraceItem}
 use Rattle.trace_print.specs.Lines.{line_of}
 use Rattle.trace_print.specs.declared.items.TraceItem.TheVariants.{End}
 use Rattle.stimulus.specs.Stimulus.{Stimulus}
+use Rattle.elf_image.specs.Image.{Segment}
 use Rattle.chip_core.specs.State.{State}
-use Rattle.chip_core.specs.Tick.{ticked}
+use Rattle.chip_core.specs.FirstState.{first_state}
 use Rattle.chip_core.specs.Lines.{lines_of}
-use Rattle.capsule.specs.Trace.{text_of_lines, trace_from}
+use Rattle.chip_core.specs.Run.{chip_after}
+use Rattle.chip_core.specs.Tick.{ticked}
+use Rattle.capsule.specs.Trace.{text_of_lines, trace_from, trace_of}
 
 pub text_of_lines-drop : (tick : ℕ) (items : List TraceItem) (i : ℕ) (d : TraceItem) → i < length items → text_of_lines tick (drop i items) ≡ line_of tick (get_or items i d) ++ text_of_lines tick (drop (i + 1) items)
 text_of_lines-drop tick items i d h = rw (add-one, drop-cons items i d)
 
--- what is left behind a tick
-abbrev pub left_after : ℕ → Stimulus → State → List ℕ
-left_after n bench chip = if (chip.bus).stop then [] else trace_from n bench chip
+-- what is left from a tick on
+abbrev pub left_from : ℕ → ℕ → Stimulus → State → List ℕ
+left_from n tick bench first = if ((chip_after tick bench first).bus).stop then [] else trace_from n tick bench first
 
-pub trace_from-more : (end n : ℕ) (bench : Stimulus) (chip : State) → n < end → trace_from (end - n) bench chip ≡ text_of_lines chip.tick (lines_of bench chip) ++ left_after (end - (n + 1)) bench (ticked bench chip)
-trace_from-more end n bench chip h = let e : end - n ≡ suc (end - (n + 1)) = omega arith in rw e refl
+pub trace_from-more : (end n : ℕ) (bench : Stimulus) (first : State) → n < end → trace_from (end - n) n bench first ≡ text_of_lines n (lines_of bench (chip_after n bench first)) ++ left_from (end - (n + 1)) (n + 1) bench first
+trace_from-more end n bench first h = let e : end - n ≡ suc (end - (n + 1)) = omega arith in rw (e, add-one) refl
 
-pub trace_from-last : (end n : ℕ) (bench : Stimulus) (chip : State) → n ≡ end → trace_from (end - n) bench chip ≡ line_of chip.tick End
-trace_from-last end n bench chip h = let e : end - n ≡ zero = omega arith in rw e refl
+pub left_from-stop : (n tick : ℕ) (bench : Stimulus) (first chip : State) → chip ≡ chip_after tick bench first → (chip.bus).stop ≡ true → left_from n tick bench first ≡ []
+left_from-stop n tick bench first chip c h = let stops : ((chip_after tick bench first).bus).stop ≡ true = rw c at h in rw stops refl
 
-pub left_after-stop : (n : ℕ) (bench : Stimulus) (chip : State) → (chip.bus).stop ≡ true → left_after n bench chip ≡ []
-left_after-stop n bench chip h = rw h refl
+pub left_from-more : (n tick : ℕ) (bench : Stimulus) (first chip : State) → chip ≡ chip_after tick bench first → (chip.bus).stop ≡ false → left_from n tick bench first ≡ trace_from n tick bench first
+left_from-more n tick bench first chip c h = let goes : ((chip_after tick bench first).bus).stop ≡ false = rw c at h in rw goes refl
 
-pub left_after-more : (n : ℕ) (bench : Stimulus) (chip : State) → (chip.bus).stop ≡ false → left_after n bench chip ≡ trace_from n bench chip
-left_after-more n bench chip h = rw h refl
+-- one tick more of a run
+pub chip_after-more : (tick : ℕ) (bench : Stimulus) (first chip after : State) → chip ≡ chip_after tick bench first → after ≡ ticked bench chip → after ≡ chip_after (tick + 1) bench first
+chip_after-more tick bench first chip after c t = rw add-one (t ∙ ap (λ (state : State). ticked bench state) c)
 
 pub ticked-tick : (bench : Stimulus) (chip : State) → (ticked bench chip).tick ≡ chip.tick + 1
 unfolding ticked
 ticked-tick bench chip = refl
 
 -- the text of one tick stands before what is left behind it
-pub tick_parts : (end n : ℕ) (bench : Stimulus) (chip after : State) (items : List TraceItem) → n < end → chip.tick ≡ n → after ≡ ticked bench chip → items ≡ lines_of bench chip → trace_from (end - n) bench chip ≡ text_of_lines n items ++ left_after (end - (n + 1)) bench after
-tick_parts end n bench chip after items h t a i =
-    let within : chip.tick < end = omega arith in
-    rw (a, i) (rw (← t) (trace_from-more end chip.tick bench chip within))
+pub tick_parts : (end n : ℕ) (bench : Stimulus) (first chip : State) (items : List TraceItem) → n < end → chip ≡ chip_after n bench first → items ≡ lines_of bench chip → trace_from (end - n) n bench first ≡ text_of_lines n items ++ left_from (end - (n + 1)) (n + 1) bench first
+tick_parts end n bench first chip items h c i =
+    trace_from-more end n bench first h ∙ ap (λ (told : List TraceItem). text_of_lines n told ++ left_from (end - (n + 1)) (n + 1) bench first) (sym (i ∙ ap (λ (state : State). lines_of bench state) c))
 
-pub end_parts : (end n : ℕ) (bench : Stimulus) (chip : State) → n ≡ end → chip.tick ≡ n → trace_from (end - n) bench chip ≡ line_of end End ++ []
-end_parts end n bench chip h t = trace_from-last end n bench chip h ∙ rw (t, h) (sym (append-nil (line_of end End)))
+pub end_parts : (end n : ℕ) (bench : Stimulus) (first : State) → n ≡ end → trace_from (end - n) n bench first ≡ line_of end End ++ []
+end_parts end n bench first h =
+    let e : end - n ≡ zero = omega arith in
+    rw (e, h) (sym (append-nil (line_of end End)))
+
+-- the trace of a run is what is written from its first chip on
+pub trace_of-first : (bench : Stimulus) (image : List Segment) (chip : State) (end : ℕ) → end ≡ bench.end → chip ≡ first_state image bench.fill → trace_from end 0 bench chip ≡ trace_of bench image
+unfolding trace_of
+trace_of-first bench image chip end ends first = rw (ends, first) refl

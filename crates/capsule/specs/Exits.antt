@@ -1,4 +1,16 @@
--- The numbers that the process ends with.
+-- The numbers that the process ends with. What a status says of its call is in `Call`; in short:
+--
+-- 0  each file was read to its end and is what it ought to be, and the whole text was written
+-- 2  the words are no command, and nothing was asked for
+-- 3  there is no file of the name that was asked for
+-- 4  a find or a read failed
+-- 5  a file is longer than its limit
+-- 6  a file was read to its end, and is no image
+-- 7  a file was read to its end, and is no bench
+-- 8  a put failed, and a front of the text was written
+-- 9  there was no memory, and no fault was counted
+--
+-- Except for 0 and 8 nothing was written. Behind the file that decides none was asked for.
 use Rattle.std.specs.Prelude.{ℕ}
 use Rattle.capsule.specs.declared.statuses.Status.{Status}
 use Rattle.capsule.specs.declared.statuses.Status.TheVariants.{Done, Usage, Absent, ReadFault, TooLong, Image, Bench, WriteFault, NoMemory}

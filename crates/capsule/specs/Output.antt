@@ -1,88 +1,73 @@
--- What a call writes and answers, by the files.
-use Rattle.std.specs.Prelude.{◌≡◌, ◌≤◌, ℕ, List, [], length, Option, Some, None, Result, Ok, Err, ◌⊎◌, IfSome, IsSomeAnd, IsOkAnd, if◌then◌else◌}
-use Rattle.std.specs.Str.{is_utf8}
-use Rattle.toml.specs.Parse.{parse_document}
+-- What a request comes to, by its files: a text or a refusal.
+use Rattle.std.specs.Prelude.{ℕ, List, length, Option, Some, None, Result, Ok, Err, nat_lt, if◌then◌else◌}
 use Rattle.elf_image.specs.declared.refusals.ImageRefused.{ImageRefused}
 use Rattle.elf_image.specs.Image.{Segment, image_of}
 use Rattle.stimulus.specs.declared.refusals.BenchRefused.{BenchRefused}
-use Rattle.stimulus.specs.declared.refusals.BenchRefused.TheVariants.{NotToml}
-use Rattle.stimulus.specs.Stimulus.{Stimulus, bench_of}
+use Rattle.stimulus.specs.Stimulus.{Stimulus, bench_of_file}
 use Rattle.bench_io.specs.Shelves.{Files}
 use Rattle.capsule.specs.declared.statuses.Status.{Status}
-use Rattle.capsule.specs.declared.statuses.Status.TheVariants.{Done, Usage, Absent, ReadFault, TooLong, Image, Bench, WriteFault, NoMemory}
-use Rattle.capsule.specs.Trace.{trace_of}
+use Rattle.capsule.specs.declared.statuses.Status.TheVariants.{Usage, Absent, TooLong, Image, Bench}
+use Rattle.capsule.specs.Trace.{plain_bench, trace_of}
+use Rattle.capsule.specs.Words.{Request, NoCommand, RunImage}
 
--- what a file's bytes are as a bench: what their TOML document is; bytes that are no text are no TOML
-unfoldable pub bench_of_file : List ℕ → Result Stimulus BenchRefused
-bench_of_file bytes = if is_utf8 bytes then bench_of (parse_document bytes) else Err NotToml
+-- A request as a value: the files that it reads, one after the other, and what their bytes lead to.
+pub data Plan : Type 0 where
+  -- a file by its name, how many bytes it has at most, and what follows from its bytes
+  Read : List ℕ → ℕ → (List ℕ → Plan) → Plan
+  Refuse : Status → Plan
+  Write : List ℕ → Plan
 
--- the bench of a run that names none
-abbrev pub plain_bench : Stimulus
-plain_bench = record { end = 1000; fill = 0; events = [] }
+-- how many bytes an image has at most
+abbrev pub image_limit : ℕ
+image_limit = 4194304
 
--- a fact of the bench of a run
-abbrev pub OfBench : Files → Option (List ℕ) → (Stimulus → Type 0) → Type 0
-OfBench files None P = P plain_bench
-OfBench files (Some name) P = IsSomeAnd (files name) (λ bytes. IsOkAnd (bench_of_file bytes) P)
+-- how many bytes a bench has at most
+abbrev pub bench_limit : ℕ
+bench_limit = 1048576
 
--- a fact of the trace of the image in a file that is there, under the bench of the run
-abbrev pub OfTrace : Files → List ℕ → Option (List ℕ) → (List ℕ → Type 0) → Type 0
-OfTrace files name bench P =
-    IsSomeAnd (files name) (λ bytes. IsOkAnd (image_of bytes) (λ image. OfBench files bench (λ stimulus. P (trace_of stimulus image))))
+-- what follows from an image, or why its file is none
+abbrev pub with_image : Result (List Segment) ImageRefused → (List Segment → Plan) → Plan
+with_image (Ok image) next = next image
+with_image (Err refusal) next = Refuse (Image refusal)
 
--- a fact of why an image was refused
-abbrev pub IfImage : Status → (ImageRefused → Type 0) → Type 0
-IfImage (Image refusal) P = P refusal
-IfImage status P = Unit {0}
+-- what follows from a bench, or why its file is none
+abbrev pub with_bench : Result Stimulus BenchRefused → (Stimulus → Plan) → Plan
+with_bench (Ok bench) next = next bench
+with_bench (Err refusal) next = Refuse (Bench refusal)
 
--- a fact of why a bench was refused
-abbrev pub IfBench : Status → (BenchRefused → Type 0) → Type 0
-IfBench (Bench refusal) P = P refusal
-IfBench status P = Unit {0}
+-- the bench in a file
+abbrev pub bench_in_file : List ℕ → (Stimulus → Plan) → Plan
+bench_in_file name next = Read name bench_limit (λ bytes. with_bench (bench_of_file bytes) next)
 
--- the statuses that come after all files were read
-abbrev pub IsAfterReading : Status → Type 0
-IsAfterReading Done = Unit {0}
-IsAfterReading WriteFault = Unit {0}
-IsAfterReading NoMemory = Unit {0}
-IsAfterReading status = ⊥
+-- the bench of a run, which is a file only where it is named
+abbrev pub bench_of_run : Option (List ℕ) → (Stimulus → Plan) → Plan
+bench_of_run None next = next plain_bench
+bench_of_run (Some name) next = bench_in_file name next
 
--- the statuses that come where a bench isn't read
-abbrev pub IsBenchStatus : Status → Type 0
-IsBenchStatus Absent = Unit {0}
-IsBenchStatus ReadFault = Unit {0}
-IsBenchStatus TooLong = Unit {0}
-IsBenchStatus (Bench refusal) = Unit {0}
-IsBenchStatus NoMemory = Unit {0}
-IsBenchStatus status = ⊥
+-- the trace of an image
+abbrev pub run_of : List Segment → Option (List ℕ) → Plan
+run_of image bench = bench_of_run bench (λ stimulus. Write (trace_of stimulus image))
 
--- the statuses that come where the bytes are no bench
-abbrev pub IsParseStatus : Status → Type 0
-IsParseStatus (Bench refusal) = Unit {0}
-IsParseStatus NoMemory = Unit {0}
-IsParseStatus status = ⊥
+-- what the bytes of an image lead to in a run
+abbrev pub image_judged : List ℕ → Option (List ℕ) → Plan
+image_judged bytes bench = with_image (image_of bytes) (λ image. run_of image bench)
 
--- the statuses of a run whose image was read
-abbrev pub IsRunStatus : Status → Type 0
-IsRunStatus Usage = ⊥
-IsRunStatus status = Unit {0}
+-- The image first, and then the bench. Later requests add their cases here.
+abbrev pub plan_of : Request → Plan
+plan_of NoCommand = Refuse Usage
+plan_of (RunImage image bench) = Read image image_limit (λ bytes. image_judged bytes bench)
 
--- a status, where memory was found
-abbrev pub IsAnswer : Status → Status → Type 0
-IsAnswer expected status = (status ≡ expected) ⊎ (status ≡ NoMemory)
+-- what comes of a file that is there or not
+abbrev pub of_file : Option (List ℕ) → ℕ → (List ℕ → Result (List ℕ) Status) → Result (List ℕ) Status
+of_file None limit next = Err Absent
+of_file (Some bytes) limit next = if nat_lt limit (length bytes) then Err TooLong else next bytes
 
--- the status that a bench calls for
-abbrev pub IsAnswerToBench : Result Stimulus BenchRefused → Status → Type 0
-IsAnswerToBench (Ok bench) status = IsAnswer Done status
-IsAnswerToBench (Err refusal) status = IsAnswer (Bench refusal) status
+-- what a plan comes to
+abbrev pub outcome : Plan → Files → Result (List ℕ) Status
+outcome (Read name limit next) files = of_file (files name) limit (λ bytes. outcome (next bytes) files)
+outcome (Refuse refusal) files = Err refusal
+outcome (Write text) files = Ok text
 
--- the status that the bench of a run calls for, where its file is there and within its limit
-abbrev pub IsAnswerToBenchIn : Files → Option (List ℕ) → Status → Type 0
-IsAnswerToBenchIn files None status = IsAnswer Done status
-IsAnswerToBenchIn files (Some name) status =
-    IfSome (files name) (λ bytes. length bytes ≤ 1048576 → IsAnswerToBench (bench_of_file bytes) status)
-
--- the status that an image calls for; where it is one, its bench decides
-abbrev pub IsAnswerTo : Result (List Segment) ImageRefused → (Status → Type 0) → Status → Type 0
-IsAnswerTo (Ok image) ByBench status = ByBench status
-IsAnswerTo (Err refusal) ByBench status = IsAnswer (Image refusal) status
+-- what a request writes, or the first refusal in the order of its files
+abbrev pub output : Request → Files → Result (List ℕ) Status
+output request files = outcome (plan_of request) files

@@ -1,24 +1,27 @@
--- The words that the program is called with.
+-- The words that the program is called with, and what they ask for.
 use Rattle.std.specs.Prelude.{ℕ, List, [], ◌∷◌, Option, Some, None, codes, if◌then◌else◌}
 use Rattle.std.specs.Option.{option_copied}
 use Rattle.std.specs.Str.{bytes_eq}
 use Rattle.capsule.specs.declared.commands.Command.{Command}
 use Rattle.capsule.specs.declared.commands.Command.TheVariants.{Run}
 
--- what a run is of: the name of an image, and that of a bench where one is given
-pub record RunWords : Type 0 where
-  pub image : List ℕ
-  pub bench : Option (List ℕ)
+-- what a call is asked to do
+pub data Request : Type 0 where
+  -- the words are no command
+  NoCommand : Request
+  -- an image by its name, and a bench by its name where one is given
+  RunImage : List ℕ → Option (List ℕ) → Request
 
-abbrev pub if_run : List ℕ → RunWords → Option RunWords
-if_run command words = if bytes_eq command (codes "run") then Some words else None
+abbrev pub if_run : List ℕ → Request → Request
+if_run command request = if bytes_eq command (codes "run") then request else NoCommand
 
 -- the words `run IMAGE` and `run IMAGE BENCH`
-abbrev pub run_named : List (List ℕ) → Option RunWords
-run_named (command ∷ image ∷ []) = if_run command (record { image = image; bench = None })
-run_named (command ∷ image ∷ bench ∷ []) = if_run command (record { image = image; bench = Some bench })
-run_named words = None
+abbrev pub request_of : List (List ℕ) → Request
+request_of (command ∷ image ∷ []) = if_run command (RunImage image None)
+request_of (command ∷ image ∷ bench ∷ []) = if_run command (RunImage image (Some bench))
+request_of words = NoCommand
 
--- the words of a command
-abbrev pub words_of_command : Command → RunWords
-words_of_command (Run image bench) = record { image = image.now; bench = option_copied bench }
+-- what a command asks for
+abbrev pub request_of_command : Option Command → Request
+request_of_command None = NoCommand
+request_of_command (Some (Run image bench)) = RunImage image.now (option_copied bench)

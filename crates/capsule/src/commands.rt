@@ -1,10 +1,7 @@
-ghost use Rattle.std.specs.Prelude.{◌≡◌, ◌≢◌, ◌≤◌, ◌<◌, ◌↔◌, ◌⊎◌, IfSome, IsSomeAnd, length, map, option_map, slice_index, string_bytes, None, Err};
-ghost use Rattle.bench_io.specs.Faults.{Rose};
-ghost use Rattle.bench_io.specs.Shelves.{places_since};
-ghost use Rattle.bench_io.specs.Sinks.{AppendsFront, appended};
-ghost use Rattle.elf_image.specs.Image.{image_of};
-ghost use Rattle.capsule.specs.Output.{bench_of_file, IfBench, IfImage, IsAnswerTo, IsAnswerToBenchIn, OfTrace};
-ghost use Rattle.capsule.specs.Words.{run_named, words_of_command};
+ghost use Rattle.std.specs.Prelude.{◌≡◌, ◌↔◌, map, string_bytes};
+ghost use Rattle.bench_io.specs.WholeFiles.{shelf_view};
+ghost use Rattle.capsule.specs.Call.{IsCall, sink_view};
+ghost use Rattle.capsule.specs.Words.{NoCommand, request_of, request_of_command};
 
 use crate::runs::run;
 use crate::statuses::Status;
@@ -20,7 +17,7 @@ enum Command<'a> {
 
 /// Reads the words.
 fn read_command(words: &[String]) -> Option<Command<'_>>
-    ensures { option_map words_of_command result ≡ run_named (map string_bytes words.now) }
+    ensures { request_of_command result ≡ request_of (map string_bytes words.now) }
 {
     match words {
         [command, image] => {
@@ -52,31 +49,13 @@ pub fn capsule<S: Shelf, K: Sink>(
     shelf: &mut S,
     out: &mut K,
 ) -> Status
-    ensures usage { (result ≡ Status.Usage) ↔ (run_named (map string_bytes words.now) ≡ None) }
-    ensures absent { result ≡ Status.Absent → IfSome (run_named (map string_bytes words.now)) (λ named.
-        IfSome (S.files shelf.old) (λ all. (all named.image ≡ None) ⊎ IsSomeAnd named.bench (λ name. all name ≡ None))) }
-    ensures read_fault { result ≡ Status.ReadFault → Rose (S.faults shelf.old) (S.faults shelf.new) }
-    ensures too_long { (result ≡ Status.TooLong) ↔
-        ((4194304 < slice_index (places_since (S.finds shelf.old) (S.finds shelf.new)) 0) ⊎ (1048576 < slice_index (places_since (S.finds shelf.old) (S.finds shelf.new)) 1)) }
-    ensures image { IfImage result (λ refusal. IfSome (run_named (map string_bytes words.now)) (λ named.
-        IfSome (S.files shelf.old) (λ all. IsSomeAnd (all named.image) (λ bytes. image_of bytes ≡ Err refusal)))) }
-    ensures bench { IfBench result (λ refusal. IfSome (run_named (map string_bytes words.now)) (λ named. IsSomeAnd named.bench (λ name.
-        IfSome (S.files shelf.old) (λ all. IsSomeAnd (all name) (λ bytes. bench_of_file bytes ≡ Err refusal))))) }
-    ensures write_fault { result ≡ Status.WriteFault → Rose (K.faults out.old) (K.faults out.new) }
-    ensures uncounted { result ≡ Status.Done →
-        (S.faults shelf.new ≡ S.faults shelf.old) × (K.faults out.new ≡ K.faults out.old) }
-
-    // What the sink holds afterwards: the whole trace, a front of it, or nothing more than before.
-    ensures whole { result ≡ Status.Done → IfSome (run_named (map string_bytes words.now)) (λ named. IfSome (S.files shelf.old) (λ all.
-        OfTrace all named.image named.bench (λ text. K.written out.new ≡ appended (K.written out.old) text))) }
-    ensures front { result ≡ Status.WriteFault → IfSome (run_named (map string_bytes words.now)) (λ named. IfSome (S.files shelf.old) (λ all.
-        OfTrace all named.image named.bench (λ text. AppendsFront (K.written out.old) (K.written out.new) text))) }
-    ensures nothing { result ≢ Status.Done → result ≢ Status.WriteFault → K.written out.new ≡ K.written out.old }
-
-    // Where no fault was counted, files that are there and within their limits decide the answer.
-    ensures complete { ¬ Rose (S.faults shelf.old) (S.faults shelf.new) → ¬ Rose (K.faults out.old) (K.faults out.new) →
-        IfSome (run_named (map string_bytes words.now)) (λ named. IfSome (S.files shelf.old) (λ all. IfSome (all named.image) (λ bytes.
-        length bytes ≤ 4194304 → IsAnswerTo (image_of bytes) (IsAnswerToBenchIn all named.bench) result))) }
+    ensures usage { (result ≡ Status.Usage)
+        ↔ (request_of (map string_bytes words.now) ≡ NoCommand) }
+    ensures call { IsCall (request_of (map string_bytes words.now))
+        (shelf_view (S.files shelf.old) (S.finds shelf.old) (S.faults shelf.old))
+        (shelf_view (S.files shelf.new) (S.finds shelf.new) (S.faults shelf.new))
+        (sink_view (K.written out.old) (K.faults out.old))
+        (sink_view (K.written out.new) (K.faults out.new)) result }
 {
     match read_command(words) {
         Some(Command::Run(image, bench)) => run(alloc, image, bench, shelf, out),

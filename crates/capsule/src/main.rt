@@ -13,6 +13,7 @@ mod statuses;
 #[cfg(test)]
 mod tests;
 mod trace;
+mod whole_files;
 
 pub use commands::capsule;
 pub use runs::run;

@@ -1,5 +1,5 @@
-use Rattle.std.proofs.Common.{◌≡◌, ◌∙◌, ℕ, drop}
-use Rattle.bench_io.proofs.Writing.{IsWriting, goes_on, stops_in}
+use Rattle.std.proofs.Common.{◌∙◌}
+use Rattle.bench_io.proofs.Writing.{goes_on, stops_in}
 use Rattle.capsule.proofs.Texts.{text_of_lines-drop}
 use Rattle.capsule.proofs.trace.put_lines.Goals as goal
 

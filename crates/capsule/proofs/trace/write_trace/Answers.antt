@@ -1,28 +1,27 @@
-use Rattle.std.proofs.Common.{◌≡◌, ◌∙◌, ℕ, ◌+◌, ◌-◌, ◌++◌, List, sym, ap, arith}
+use Rattle.std.proofs.Common.{◌∙◌, ◌+◌, ◌-◌, ◌++◌, sym, ap, arith}
 use Rattle.std.proofs.lemmas.Result.{on_err_weaker}
-use Rattle.bench_io.specs.Sinks.{AppendsFront}
-use Rattle.bench_io.proofs.Writing.{IsWriting, goes_on, stops_in, finishes}
-use Rattle.trace_print.specs.Lines.{line_of}
+use Rattle.bench_io.proofs.Writing.{goes_on, stops_in, finishes}
 use Rattle.capsule.specs.Trace.{text_of_lines}
-use Rattle.capsule.proofs.Texts.{tick_parts, end_parts, left_after-stop, left_after-more, ticked-tick}
+use Rattle.capsule.proofs.Texts.{tick_parts, end_parts, left_from-stop, left_from-more, chip_after-more, ticked-tick}
 use Rattle.capsule.proofs.trace.write_trace.Goals as goal
 
 pub returns-in-Err-clause-front : goal.returns-in-Err-clause-front
 returns-in-Err-clause-front g c =
-    stops_in _ _ _ _ _ _ _ c.loop-n.invariant.text (tick_parts c.args.end c.loop-n.n c.args.bench.now c.loop-n.chip c.tick.new.self c.as_slice.result.now c.loop-n-test.true c.loop-n.invariant.same_tick c.tick.ensures.chip (c.as_slice.ensures.value ∙ c.tick.ensures.lines)) c.in-Err.ensures.front
+    stops_in _ _ _ _ _ _ _ c.loop-n.invariant.text (tick_parts c.args.end c.loop-n.n c.args.bench.now c.args.chip.now c.loop-n.chip c.as_slice.result.now c.loop-n-test.true c.loop-n.invariant.same_chip (c.as_slice.ensures.value ∙ c.tick.ensures.lines)) c.in-Err.ensures.front
 
 pub returns-then-is_stopped-clause-whole : goal.returns-then-is_stopped-clause-whole
 returns-then-is_stopped-clause-whole g c =
-    finishes _ _ _ _ (goes_on _ _ _ _ _ _ _ c.loop-n.invariant.text (tick_parts c.args.end c.loop-n.n c.args.bench.now c.loop-n.chip c.tick.new.self c.as_slice.result.now c.loop-n-test.true c.loop-n.invariant.same_tick c.tick.ensures.chip (c.as_slice.ensures.value ∙ c.tick.ensures.lines)) c.in-Ok.ensures.whole)
-    (left_after-stop (c.args.end - (c.loop-n.n + 1)) c.args.bench.now c.tick.new.self (sym c.is_stopped.ensures ∙ c.if-is_stopped.true))
+    finishes _ _ _ _ (goes_on _ _ _ _ _ _ _ c.loop-n.invariant.text (tick_parts c.args.end c.loop-n.n c.args.bench.now c.args.chip.now c.loop-n.chip c.as_slice.result.now c.loop-n-test.true c.loop-n.invariant.same_chip (c.as_slice.ensures.value ∙ c.tick.ensures.lines)) c.in-Ok.ensures.whole)
+    (left_from-stop (c.args.end - (c.loop-n.n + 1)) (c.loop-n.n + 1) c.args.bench.now c.args.chip.now c.tick.new.self (chip_after-more c.loop-n.n c.args.bench.now c.args.chip.now c.loop-n.chip c.tick.new.self c.loop-n.invariant.same_chip c.tick.ensures.chip) (sym c.is_stopped.ensures ∙ c.if-is_stopped.true))
 
 pub loop-n-preserved : goal.loop-n-preserved
 loop-n-preserved g c = record {
-  text = goes_on _ _ _ _ _ _ _ c.loop-n.invariant.text (tick_parts c.args.end c.loop-n.n c.args.bench.now c.loop-n.chip c.tick.new.self c.as_slice.result.now c.loop-n-test.true c.loop-n.invariant.same_tick c.tick.ensures.chip (c.as_slice.ensures.value ∙ c.tick.ensures.lines) ∙ ap (λ s. text_of_lines c.loop-n.n c.as_slice.result.now ++ s) (left_after-more (c.args.end - (c.loop-n.n + 1)) c.args.bench.now c.tick.new.self (sym c.is_stopped.ensures ∙ c.if-is_stopped.false))) c.in-Ok.ensures.whole;
+  text = goes_on _ _ _ _ _ _ _ c.loop-n.invariant.text ((tick_parts c.args.end c.loop-n.n c.args.bench.now c.args.chip.now c.loop-n.chip c.as_slice.result.now c.loop-n-test.true c.loop-n.invariant.same_chip (c.as_slice.ensures.value ∙ c.tick.ensures.lines)) ∙ ap (λ s. text_of_lines c.loop-n.n c.as_slice.result.now ++ s) (left_from-more (c.args.end - (c.loop-n.n + 1)) (c.loop-n.n + 1) c.args.bench.now c.args.chip.now c.tick.new.self (chip_after-more c.loop-n.n c.args.bench.now c.args.chip.now c.loop-n.chip c.tick.new.self c.loop-n.invariant.same_chip c.tick.ensures.chip) (sym c.is_stopped.ensures ∙ c.if-is_stopped.false))) c.in-Ok.ensures.whole;
   uncounted = c.in-Ok.ensures.uncounted ∙ c.loop-n.invariant.uncounted;
+  same_chip = chip_after-more c.loop-n.n c.args.bench.now c.args.chip.now c.loop-n.chip c.tick.new.self c.loop-n.invariant.same_chip c.tick.ensures.chip;
   same_tick = ap (λ chip. chip.tick) c.tick.ensures.chip ∙ ticked-tick c.args.bench.now c.loop-n.chip ∙ ap (λ n. n + 1) c.loop-n.invariant.same_tick;
 }
 
 pub returns-clause-front : goal.returns-clause-front
 returns-clause-front g c =
-    on_err_weaker c.put_line.result (λ front. stops_in _ _ _ _ _ _ _ c.loop-n.invariant.text (end_parts c.args.end c.loop-n.n c.args.bench.now c.loop-n.chip (omega arith) c.loop-n.invariant.same_tick) front) c.put_line.ensures.front
+    on_err_weaker c.put_line.result (λ front. stops_in _ _ _ _ _ _ _ c.loop-n.invariant.text (end_parts c.args.end c.loop-n.n c.args.bench.now c.args.chip.now (omega arith)) front) c.put_line.ensures.front
