@@ -1,0 +1,7 @@
+mod benches;
+mod cases;
+mod images;
+mod interrupts;
+mod programs;
+mod refusals;
+mod resets;
