@@ -46,6 +46,7 @@ pub fn read_file<S: Shelf>(
     limit: usize,
 ) -> Result<Vec<u8>, FileRefused>
     requires { limit < 2 ^ 32 }
+    ensures later { S.faults shelf.old ≤ S.faults shelf.new }
     ensures read { IfOk result (λ bytes. IsRead
         (shelf_view (S.files shelf.old) (S.finds shelf.old) (S.faults shelf.old))
         (shelf_view (S.files shelf.new) (S.finds shelf.new) (S.faults shelf.new))
