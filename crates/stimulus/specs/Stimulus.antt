@@ -24,7 +24,7 @@ pub record Stimulus : Type 0 where
 
 -- the longest run, in ticks
 abbrev pub greatest_end : ℕ
-greatest_end = 32768
+greatest_end = 10000000
 
 -- the most events that a bench has
 abbrev pub most_events : ℕ

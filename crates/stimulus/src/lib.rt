@@ -20,7 +20,7 @@ pub use reading::read_bench;
 pub use refusals::{BenchError, BenchRefused, RootField};
 
 /// The longest run, in ticks. A bench has an end from 1 up to this.
-pub const MAX_END: u32 = 32_768;
+pub const MAX_END: u32 = 10_000_000;
 /// The most events that a bench has.
 pub const MAX_EVENTS: usize = 10_000;
 /// The most events that come in one tick.

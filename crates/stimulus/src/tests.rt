@@ -29,8 +29,8 @@ fn refuses(rt: HostRuntime) -> Result<(), Fail> {
         ("no end", "version = 1", field(RootField::End)),
         ("end 0", "version = 1\nend = 0", field(RootField::End)),
         (
-            "end 32769",
-            "version = 1\nend = 32769",
+            "end 10000001",
+            "version = 1\nend = 10000001",
             field(RootField::End),
         ),
         (
@@ -196,7 +196,7 @@ fn refuses_the_first_event_that_breaks_a_rule(rt: HostRuntime) -> Result<(), Fai
 
 /// A bench with so many events on each of so many ticks.
 fn crowd(alloc: Global, ticks: u32, on_tick: u32) -> Result<String, Fail> {
-    let mut text = String::from_str(alloc, "version = 1\nend = 32768\n")?;
+    let mut text = String::from_str(alloc, "version = 1\nend = 10000000\n")?;
     for tick in 0..ticks {
         for event in 0..on_tick {
             let bit = event % 8;
@@ -267,7 +267,7 @@ fn reads_a_bench(rt: HostRuntime) -> Result<(), Fail> {
     assert_eq!(rt; bench.events(30), [].as_slice());
     assert_eq!(rt; bench.events(u32::MAX), [].as_slice());
 
-    let short = read_bench(rt.alloc(), b"version = 1\nend = 32768\nevent = []\n")?;
+    let short = read_bench(rt.alloc(), b"version = 1\nend = 10000000\nevent = []\n")?;
     assert_eq!(rt; (short.end(), short.fill()), (32_768, 0));
     let plain = Bench::plain(rt.alloc(), 1, 255)?;
     assert_eq!(rt; (plain.end(), plain.fill()), (1, 255));
