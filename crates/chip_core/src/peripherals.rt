@@ -9,7 +9,10 @@ ghost use Rattle.chip_words.specs.Units.{units_at_reset, units_cause, units_cloc
 ghost use Rattle.port_unit.specs.Pins.{pins_of};
 
 use crate::fabric::Fabric;
-use chip_words::{Size, UnitName, VECTORS, WATCHDOG_INTERVAL, WATCHDOG_LINE, unit_at};
+use chip_words::{
+    Size, TA0_CCR0_LINE, TA1_CCR0_LINE, TB0_CCR0_LINE, UnitName, VECTORS, WATCHDOG_INTERVAL,
+    WATCHDOG_LINE, unit_at,
+};
 use port_unit::Pins;
 
 impl Fabric {
@@ -33,11 +36,11 @@ impl Fabric {
     }
 
     /// The interrupt lines, of which bit i is line i.
-    #[tactic(auto, unfolding(chip_words::specs::Interrupts::units_lines, chip_words::specs::Ports::ports_lines))]
+    #[tactic(auto, unfolding(chip_words::specs::Interrupts::units_lines, chip_words::specs::Ports::ports_lines, chip_words::specs::Timers::timers_lines))]
     pub fn lines(&self) -> u16
         ensures lines { result ≡ units_lines (units_of self.now) }
     {
-        self.sys.lines() + self.ports.lines()
+        self.sys.lines() + self.timers.lines() + self.ports.lines()
     }
 
     /// An interrupt was entered: the flag of its line is cleared, where the line has a single one.
@@ -47,6 +50,12 @@ impl Fabric {
     {
         if vector == VECTORS[WATCHDOG_LINE as usize] {
             self.sys.entered(WATCHDOG_LINE);
+        } else if vector == VECTORS[TB0_CCR0_LINE as usize] {
+            self.timers.entered(TB0_CCR0_LINE);
+        } else if vector == VECTORS[TA0_CCR0_LINE as usize] {
+            self.timers.entered(TA0_CCR0_LINE);
+        } else if vector == VECTORS[TA1_CCR0_LINE as usize] {
+            self.timers.entered(TA1_CCR0_LINE);
         }
     }
 

@@ -39,6 +39,19 @@ PAIN = 0x0200
 abbrev pub PBIN : ℕ
 PBIN = 0x0220
 
+-- the first register of the timers TA0, TA1 and TB0, each of which has so many bytes of addresses
+abbrev pub TA0CTL : ℕ
+TA0CTL = 0x0340
+
+abbrev pub TA1CTL : ℕ
+TA1CTL = 0x0380
+
+abbrev pub TB0CTL : ℕ
+TB0CTL = 0x03C0
+
+abbrev pub TIMER_BYTES : ℕ
+TIMER_BYTES = 0x30
+
 -- so many bytes from an address on are of a unit
 pub record UnitRow : Type 0 where
   pub low : ℕ
@@ -48,8 +61,8 @@ pub record UnitRow : Type 0 where
 abbrev pub of_unit : ℕ → ℕ → UnitName → UnitRow
 of_unit low bytes unit = record { low = low; bytes = bytes; unit = unit }
 
--- The ports have all addresses of their stretch: those without a register read 0, and a write does nothing to them. So
--- it is with SYSSNIV, as long as no unit that it tells of is built.
+-- The ports and the timers have all addresses of their stretches: those without a register read 0, and a write does
+-- nothing to them. So it is with SYSSNIV, as long as no unit that it tells of is built.
 abbrev pub unit_rows : List UnitRow
 unit_rows =
     of_unit SFRIE1 4 Sys
@@ -60,6 +73,9 @@ unit_rows =
     ∷ of_unit SYSCTL 2 Sys
     ∷ of_unit SYSSNIV 4 Sys
     ∷ of_unit PAIN 0x40 Ports
+    ∷ of_unit TA0CTL TIMER_BYTES Timers
+    ∷ of_unit TA1CTL TIMER_BYTES Timers
+    ∷ of_unit TB0CTL TIMER_BYTES Timers
     ∷ []
 
 -- the unit of the first row that has an address

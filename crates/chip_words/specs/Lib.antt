@@ -12,6 +12,7 @@ pub mod InterruptLines
 pub mod Sys
 pub mod Ports
 pub mod Watchdog
+pub mod Timer
 pub mod Timers
 pub mod Units
 pub mod Interrupts

@@ -9,7 +9,7 @@ use Rattle.chip_words.specs.Addresses.{register_address, unit_at}
 use Rattle.chip_words.specs.Bits.{part_of}
 use Rattle.chip_words.specs.Sys.{Sys, sys_at_reset, sys_taken, sys_word, sys_touched, sys_written, sys_cause, sys_fired}
 use Rattle.chip_words.specs.Ports.{Ports, driven, ports_at_reset, ports_touched, ports_word, ports_written}
-use Rattle.chip_words.specs.Timers.{Timers, fired, first_timers, timers_cause, timers_ticked, timers_word, timers_written}
+use Rattle.chip_words.specs.Timers.{Timers, fired, first_timers, timers_cause, timers_ticked, timers_touched, timers_word, timers_written}
 
 pub record Units : Type 0 where
   pub sys : Sys
@@ -49,7 +49,7 @@ word_of units at = word_in (unit_at at) units at
 -- what a read leaves of a unit
 abbrev pub touched_in : Option UnitName → Units → ℕ → Units
 touched_in (Some of.Sys) units at = record units { sys = sys_touched units.sys at }
-touched_in (Some of.Timers) units at = units
+touched_in (Some of.Timers) units at = record units { timers = timers_touched units.timers at }
 touched_in (Some of.Ports) units at = record units { ports = ports_touched units.ports at }
 touched_in None units at = units
 

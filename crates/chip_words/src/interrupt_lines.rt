@@ -7,8 +7,26 @@ pub const VECTORS: [u32; 13] = [
 
 // The numbers of lines: bit i of a word of lines is line i.
 
+/// CCTL0 of TB0.
+pub const TB0_CCR0_LINE: u8 = 0;
+
+/// All else of TB0.
+pub const TB0_LINE: u8 = 1;
+
 /// The watchdog as an interval timer.
 pub const WATCHDOG_LINE: u8 = 2;
+
+/// CCTL0 of TA0.
+pub const TA0_CCR0_LINE: u8 = 4;
+
+/// All else of TA0.
+pub const TA0_LINE: u8 = 5;
+
+/// CCTL0 of TA1.
+pub const TA1_CCR0_LINE: u8 = 7;
+
+/// All else of TA1.
+pub const TA1_LINE: u8 = 8;
 
 pub const P1_LINE: u8 = 9;
 

@@ -16,6 +16,7 @@ mod registers;
 mod sizes;
 #[cfg(test)]
 mod tests;
+mod timer_steps;
 mod unit_names;
 
 pub use accesses::{Access, Agent, Kind};
@@ -26,14 +27,18 @@ pub use causes::{
 };
 pub use decimals::bcd_add;
 pub use fired::Fired;
-pub use interrupt_lines::{P1_LINE, P2_LINE, P3_LINE, P4_LINE, VECTORS, WATCHDOG_LINE};
+pub use interrupt_lines::{
+    P1_LINE, P2_LINE, P3_LINE, P4_LINE, TA0_CCR0_LINE, TA0_LINE, TA1_CCR0_LINE, TA1_LINE,
+    TB0_CCR0_LINE, TB0_LINE, VECTORS, WATCHDOG_LINE,
+};
 pub use memory::{fill_within, load, memory_size, store};
 pub use no_memory::NoMemory;
 pub use parts::{part, word_with_part};
 pub use regions::Region;
 pub use registers::{CG, PC, Regs, SP, SR};
 pub use sizes::{Size, signed, wrap20};
+pub use timer_steps::TimerStep;
 pub use unit_names::{
     CSCTL0, CSCTL6, PAIN, PBIN, PM5CTL0, PMMCTL0, SFRIE1, SFRIFG1, SYSCTL, SYSRSTIV, SYSSNIV,
-    UnitName, WDTCTL, unit_at,
+    TA0CTL, TA1CTL, TB0CTL, UnitName, WDTCTL, unit_at,
 };

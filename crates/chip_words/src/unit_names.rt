@@ -6,7 +6,7 @@ ghost use Rattle.chip_words.specs.Addresses.{unit_at as unit_at_address};
 pub enum UnitName {
     /// The special function registers, the power management, the clock system and the system control.
     Sys,
-    /// The watchdog.
+    /// The watchdog, and the timers TA0, TA1 and TB0.
     Timers,
     /// The ports P1 to P4.
     Ports,
@@ -41,6 +41,23 @@ pub const PBIN: u32 = 0x0220;
 /// The last byte of the ports.
 const PORTS_LAST: u32 = 0x023F;
 
+/// The first register of TA0.
+pub const TA0CTL: u32 = 0x0340;
+
+/// The first register of TA1.
+pub const TA1CTL: u32 = 0x0380;
+
+/// The first register of TB0.
+pub const TB0CTL: u32 = 0x03C0;
+
+// The last byte of each timer.
+
+const TA0_LAST: u32 = 0x036F;
+
+const TA1_LAST: u32 = 0x03AF;
+
+const TB0_LAST: u32 = 0x03EF;
+
 /// The unit that an address of the peripherals is of, where one is built.
 #[tactic(auto, unfolding(crate::specs::Addresses::unit_at))]
 pub fn unit_at(at: u32) -> Option<UnitName>
@@ -52,6 +69,7 @@ pub fn unit_at(at: u32) -> Option<UnitName>
         }
         WDTCTL => Some(UnitName::Timers),
         PAIN..=PORTS_LAST => Some(UnitName::Ports),
+        TA0CTL..=TA0_LAST | TA1CTL..=TA1_LAST | TB0CTL..=TB0_LAST => Some(UnitName::Timers),
         _ => None,
     }
 }

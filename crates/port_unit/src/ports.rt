@@ -1,7 +1,7 @@
 ghost use Rattle.std.specs.Prelude.{◌≡◌, ◌<◌, ◌≤◌, ◌+◌, ◌^◌, Some, None, is_some};
 ghost use Rattle.chip_words.specs.Addresses.{register_address, unit_at};
-ghost use Rattle.chip_words.specs.Bits.{part_of};
-ghost use Rattle.chip_words.specs.InterruptLines.{P4_LINE as LAST_LINE, line_word};
+ghost use Rattle.chip_words.specs.Bits.{bit_word, part_of};
+ghost use Rattle.chip_words.specs.InterruptLines.{P4_LINE as LAST_LINE};
 ghost use Rattle.chip_words.specs.Ports.{Ports as PortRegisters, driven, first_place, first_ports, ports_at_reset, ports_lines, ports_touched, ports_word, ports_written};
 ghost use Rattle.chip_words.specs.Sizes.{IsByteOrWord, span};
 ghost use Rattle.port_unit.specs.Pins.{both, levels_of, pins_of};
@@ -135,7 +135,7 @@ impl Ports {
 /// The line of a number, which stands where some pin waits.
 fn line(number: u8, waiting: Option<u8>) -> u16
     requires { number < 16 }
-    ensures line { result ≡ line_word number (is_some waiting) }
+    ensures line { result ≡ bit_word number (is_some waiting) }
     ensures within { result ≤ 2 ^ number }
 {
     match waiting {

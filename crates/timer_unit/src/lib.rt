@@ -3,6 +3,7 @@
 
 #[cfg(test)]
 mod tests;
+mod timer;
 mod timers;
 mod watchdog;
 

@@ -5,3 +5,4 @@ mod interrupts;
 mod programs;
 mod refusals;
 mod resets;
+mod timers;

@@ -1,0 +1,6 @@
+use Rattle.std.proofs.Common.{◌≡◌}
+use Rattle.timer_unit.proofs.CompareRegisters.{flagged_below}
+use Rattle.timer_unit.proofs.timer.set_flags.Given as goal
+
+abbrev pub invariant-loop-n : goal.invariant-loop-n
+invariant-loop-n l = flagged_below l.n l.r l.ccr l.cctl ≡ flagged_below 0 l.r l.ccr l.fn.cctl
