@@ -1,0 +1,4 @@
+pub mod Steps
+pub mod Periods
+pub mod Edges
+pub mod Flags
