@@ -1,7 +1,7 @@
 -- The registers of the peripherals by address, and which unit an address is of (SLAS704, peripheral file map).
 use Rattle.std.specs.Prelude.{ℕ, ◌+◌, ◌-◌, ◌%◌, ◌&&◌, nat_le, nat_lt, if◌then◌else◌, List, [], ◌∷◌, Option, Some, None}
 use Rattle.chip_words.specs.declared.unit_names.UnitName.{UnitName}
-use Rattle.chip_words.specs.declared.unit_names.UnitName.TheVariants.{Sys, Timers, Ports}
+use Rattle.chip_words.specs.declared.unit_names.UnitName.TheVariants.{Sys, Timers, Ports, Dma}
 
 abbrev pub SFRIE1 : ℕ
 SFRIE1 = 0x0100
@@ -52,6 +52,23 @@ TB0CTL = 0x03C0
 abbrev pub TIMER_BYTES : ℕ
 TIMER_BYTES = 0x30
 
+-- the first register of DMA, and those that are no channel's
+abbrev pub DMACTL0 : ℕ
+DMACTL0 = 0x0500
+
+abbrev pub DMACTL1 : ℕ
+DMACTL1 = 0x0502
+
+abbrev pub DMACTL4 : ℕ
+DMACTL4 = 0x0508
+
+abbrev pub DMAIV : ℕ
+DMAIV = 0x050E
+
+-- the first register of channel 0; those of the other channels follow
+abbrev pub DMA0CTL : ℕ
+DMA0CTL = 0x0510
+
 -- so many bytes from an address on are of a unit
 pub record UnitRow : Type 0 where
   pub low : ℕ
@@ -61,7 +78,7 @@ pub record UnitRow : Type 0 where
 abbrev pub of_unit : ℕ → ℕ → UnitName → UnitRow
 of_unit low bytes unit = record { low = low; bytes = bytes; unit = unit }
 
--- The ports and the timers have all addresses of their stretches: those without a register read 0, and a write does
+-- The ports, the timers and DMA have all addresses of their stretches: those without a register read 0, and a write does
 -- nothing to them. So it is with SYSSNIV, as long as no unit that it tells of is built.
 abbrev pub unit_rows : List UnitRow
 unit_rows =
@@ -76,6 +93,7 @@ unit_rows =
     ∷ of_unit TA0CTL TIMER_BYTES Timers
     ∷ of_unit TA1CTL TIMER_BYTES Timers
     ∷ of_unit TB0CTL TIMER_BYTES Timers
+    ∷ of_unit DMACTL0 0x40 Dma
     ∷ []
 
 -- the unit of the first row that has an address

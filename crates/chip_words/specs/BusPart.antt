@@ -3,14 +3,19 @@ use Rattle.std.specs.Prelude.{◌<◌, List, Bool, Option, length, ℕ}
 use Rattle.chip_words.specs.declared.accesses.Access.{Access}
 use Rattle.chip_words.specs.declared.accesses.Agent.{Agent}
 use Rattle.chip_words.specs.declared.accesses.Agent.TheVariants.{Debug}
+use Rattle.chip_words.specs.declared.seals.Seal.{Seal}
 use Rattle.chip_words.specs.Units.{Units}
 
 pub record BusPart : Type 0 where
   -- the bytes of FRAM and SRAM by address
   pub memory : List ℕ
   pub units : Units
+  -- the addresses that stay secret, which no unit that is built seals
+  pub kept : Seal
   -- what SRAM holds when power comes on, which nothing changes
   pub fill : ℕ
+  -- an NMI is requested; nothing that is built requests one
+  pub nmi : Bool
   -- how many writes of the tick are present, where its power is cut
   pub budget : Option ℕ
   -- how many writes the tick has had

@@ -19,6 +19,9 @@ TA0_CCR0_LINE = 4
 abbrev pub TA0_LINE : ℕ
 TA0_LINE = 5
 
+abbrev pub DMA_LINE : ℕ
+DMA_LINE = 6
+
 abbrev pub TA1_CCR0_LINE : ℕ
 TA1_CCR0_LINE = 7
 

@@ -14,9 +14,12 @@ pub mod Ports
 pub mod Watchdog
 pub mod Timer
 pub mod Timers
+pub mod Channel
+pub mod Dma
 pub mod Units
 pub mod Interrupts
 pub mod Right
+pub mod Seals
 pub mod BusPart
 pub mod Access
 pub mod Script

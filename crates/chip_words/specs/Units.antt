@@ -9,12 +9,14 @@ use Rattle.chip_words.specs.Addresses.{register_address, unit_at}
 use Rattle.chip_words.specs.Bits.{part_of}
 use Rattle.chip_words.specs.Sys.{Sys, sys_at_reset, sys_taken, sys_word, sys_touched, sys_written, sys_cause, sys_fired}
 use Rattle.chip_words.specs.Ports.{Ports, driven, ports_at_reset, ports_touched, ports_word, ports_written}
+use Rattle.chip_words.specs.Dma.{Dma, dma_fired, dma_touched, dma_word, dma_written, first_dma}
 use Rattle.chip_words.specs.Timers.{Timers, fired, first_timers, timers_cause, timers_ticked, timers_touched, timers_word, timers_written}
 
 pub record Units : Type 0 where
   pub sys : Sys
   pub ports : Ports
   pub timers : Timers
+  pub dma : Dma
 
 -- all units after a reset, whose cause SYSRSTIV gets
 abbrev pub units_at_reset : Bool → ℕ → Units → Units
@@ -22,13 +24,16 @@ units_at_reset is_bor cause units = record {
   sys = sys_taken cause (sys_at_reset is_bor units.sys);
   ports = ports_at_reset units.ports;
   timers = first_timers;
+  dma = first_dma;
 }
 
--- the clock edges of a tick, each of which is there or isn't: the watchdog sets WDTIFG, and asks for a reset
+-- the clock edges of a tick, each of which is there or isn't: the watchdog sets WDTIFG, and asks for a
+-- reset, and the timers set off triggers of DMA
 abbrev pub units_clocked : Bool → Bool → Units → Units
 units_clocked smclk aclk units = record units {
   timers = timers_ticked units.timers smclk aclk;
   sys = sys_fired (fired units.timers smclk aclk) units.sys;
+  dma = dma_fired (fired units.timers smclk aclk).triggers units.dma;
 }
 
 -- the external level of a pin was set
@@ -40,6 +45,7 @@ abbrev pub word_in : Option UnitName → Units → ℕ → ℕ
 word_in (Some of.Sys) units at = sys_word units.sys (register_address at)
 word_in (Some of.Timers) units at = timers_word units.timers (register_address at)
 word_in (Some of.Ports) units at = ports_word units.ports (units.sys).locked (register_address at)
+word_in (Some of.Dma) units at = dma_word units.dma (register_address at)
 word_in None units at = 0
 
 -- the word of the register that an address is of
@@ -51,6 +57,7 @@ abbrev pub touched_in : Option UnitName → Units → ℕ → Units
 touched_in (Some of.Sys) units at = record units { sys = sys_touched units.sys at }
 touched_in (Some of.Timers) units at = record units { timers = timers_touched units.timers at }
 touched_in (Some of.Ports) units at = record units { ports = ports_touched units.ports at }
+touched_in (Some of.Dma) units at = record units { dma = dma_touched units.dma at }
 touched_in None units at = units
 
 -- the units behind a read
@@ -62,6 +69,7 @@ abbrev pub written_in : Option UnitName → Units → ℕ → Size → ℕ → U
 written_in (Some of.Sys) units at size value = record units { sys = sys_written units.sys at size value }
 written_in (Some of.Timers) units at size value = record units { timers = timers_written units.timers at size value }
 written_in (Some of.Ports) units at size value = record units { ports = ports_written units.ports at size value }
+written_in (Some of.Dma) units at size value = record units { dma = dma_written units.dma at size value }
 written_in None units at size value = units
 
 -- the units behind a write
@@ -73,6 +81,7 @@ abbrev pub cause_in : Option UnitName → Units → ℕ → Size → ℕ → Opt
 cause_in (Some of.Sys) units at size value = sys_cause units.sys at size value
 cause_in (Some of.Timers) units at size value = timers_cause at size value
 cause_in (Some of.Ports) units at size value = None
+cause_in (Some of.Dma) units at size value = None
 cause_in None units at size value = None
 
 -- the reset that a write asks for

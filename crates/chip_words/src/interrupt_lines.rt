@@ -22,6 +22,8 @@ pub const TA0_CCR0_LINE: u8 = 4;
 /// All else of TA0.
 pub const TA0_LINE: u8 = 5;
 
+pub const DMA_LINE: u8 = 6;
+
 /// CCTL0 of TA1.
 pub const TA1_CCR0_LINE: u8 = 7;
 

@@ -13,6 +13,7 @@ mod no_memory;
 mod parts;
 mod regions;
 mod registers;
+mod seals;
 mod sizes;
 #[cfg(test)]
 mod tests;
@@ -28,7 +29,7 @@ pub use causes::{
 pub use decimals::bcd_add;
 pub use fired::Fired;
 pub use interrupt_lines::{
-    P1_LINE, P2_LINE, P3_LINE, P4_LINE, TA0_CCR0_LINE, TA0_LINE, TA1_CCR0_LINE, TA1_LINE,
+    DMA_LINE, P1_LINE, P2_LINE, P3_LINE, P4_LINE, TA0_CCR0_LINE, TA0_LINE, TA1_CCR0_LINE, TA1_LINE,
     TB0_CCR0_LINE, TB0_LINE, VECTORS, WATCHDOG_LINE,
 };
 pub use memory::{fill_within, load, memory_size, store};
@@ -36,9 +37,10 @@ pub use no_memory::NoMemory;
 pub use parts::{part, word_with_part};
 pub use regions::Region;
 pub use registers::{CG, PC, Regs, SP, SR};
+pub use seals::Seal;
 pub use sizes::{Size, signed, wrap20};
 pub use timer_steps::TimerStep;
 pub use unit_names::{
-    CSCTL0, CSCTL6, PAIN, PBIN, PM5CTL0, PMMCTL0, SFRIE1, SFRIFG1, SYSCTL, SYSRSTIV, SYSSNIV,
-    TA0CTL, TA1CTL, TB0CTL, UnitName, WDTCTL, unit_at,
+    CSCTL0, CSCTL6, DMA0CTL, DMACTL0, DMACTL1, DMACTL4, DMAIV, PAIN, PBIN, PM5CTL0, PMMCTL0,
+    SFRIE1, SFRIFG1, SYSCTL, SYSRSTIV, SYSSNIV, TA0CTL, TA1CTL, TB0CTL, UnitName, WDTCTL, unit_at,
 };

@@ -10,6 +10,8 @@ pub enum UnitName {
     Timers,
     /// The ports P1 to P4.
     Ports,
+    /// The three channels of DMA.
+    Dma,
 }
 
 pub const SFRIE1: u32 = 0x0100;
@@ -58,6 +60,21 @@ const TA1_LAST: u32 = 0x03AF;
 
 const TB0_LAST: u32 = 0x03EF;
 
+/// The first register of DMA.
+pub const DMACTL0: u32 = 0x0500;
+
+pub const DMACTL1: u32 = 0x0502;
+
+pub const DMACTL4: u32 = 0x0508;
+
+pub const DMAIV: u32 = 0x050E;
+
+/// The first register of channel 0.
+pub const DMA0CTL: u32 = 0x0510;
+
+/// The last byte of DMA.
+const DMA_LAST: u32 = 0x053F;
+
 /// The unit that an address of the peripherals is of, where one is built.
 #[tactic(auto, unfolding(crate::specs::Addresses::unit_at))]
 pub fn unit_at(at: u32) -> Option<UnitName>
@@ -70,6 +87,7 @@ pub fn unit_at(at: u32) -> Option<UnitName>
         WDTCTL => Some(UnitName::Timers),
         PAIN..=PORTS_LAST => Some(UnitName::Ports),
         TA0CTL..=TA0_LAST | TA1CTL..=TA1_LAST | TB0CTL..=TB0_LAST => Some(UnitName::Timers),
+        DMACTL0..=DMA_LAST => Some(UnitName::Dma),
         _ => None,
     }
 }

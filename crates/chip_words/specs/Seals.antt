@@ -1,0 +1,7 @@
+-- Sets of addresses of main FRAM that are sealed.
+use Rattle.std.specs.Prelude.{ℕ}
+use Rattle.chip_words.specs.declared.seals.Seal.{Seal}
+
+-- no address at all
+abbrev pub nowhere : Seal
+nowhere = record { low = 0; high = 0 }

@@ -1,0 +1,13 @@
+//! The three channels of DMA: their registers, what triggers them, and their transfers.
+#![tactic(auto)]
+
+mod channel;
+mod channels;
+mod moves;
+#[cfg(test)]
+mod tests;
+mod transfers;
+
+pub use channels::Dma;
+pub use moves::make;
+pub use transfers::Move;
