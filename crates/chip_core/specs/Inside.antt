@@ -1,6 +1,6 @@
 -- The record that a chip's fields stand for.
 use Rattle.chip_core.specs.declared.chips.Chip.TheInside.{Inside}
-use Rattle.chip_core.specs.Fabric.{bus_part_of}
+use Rattle.bus_fabric.specs.Fabric.{bus_part_of}
 use Rattle.chip_core.specs.State.{State}
 
 abbrev pub state_of : Inside → State

@@ -1,4 +1,3 @@
-pub mod Fabric
 pub mod Boot
 pub mod Entry
 pub mod State

@@ -2,9 +2,9 @@
 use Rattle.std.specs.Prelude.{ℕ, ◌+◌, ◌%◌, ◌==◌, ◌&&◌, not, Bool, true, false, if◌then◌else◌, List, [], ◌∷◌, Option, Some, None, slice_index}
 use Rattle.chip_words.specs.Bits.{has_bit}
 use Rattle.chip_words.specs.Registers.{OSCOFF, SCG1, SR, no_registers, with_register}
-use Rattle.chip_words.specs.Causes.{POWER_ON, is_of_bor, least_cause, no_causes}
+use Rattle.chip_words.specs.Causes.{POWER_ON, is_of_bor, least_cause}
 use Rattle.chip_words.specs.Units.{units_at_reset, units_clocked, units_driven}
-use Rattle.chip_words.specs.BusPart.{BusPart}
+use Rattle.bus_fabric.specs.Fabric.{tick_ended}
 use Rattle.stimulus.specs.declared.events.Event.{Event}
 use Rattle.stimulus.specs.declared.events.EventAct.{EventAct}
 use Rattle.stimulus.specs.declared.events.EventAct.TheVariants.{Pin}
@@ -113,10 +113,6 @@ moments_from before ready = moments_with before ready (owned ready)
 -- the moments of the next tick
 unfoldable pub moments : Stimulus → State → Moments
 moments bench chip = moments_from chip (ready bench chip)
-
--- a tick ends with no write counted, and with an empty list and no causes of a step
-abbrev pub tick_ended : BusPart → BusPart
-tick_ended part = record part { budget = None; writes = 0; accesses = []; causes = no_causes }
 
 -- the chip after its next tick, which has the next number
 unfoldable pub ticked : Stimulus → State → State

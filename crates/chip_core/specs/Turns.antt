@@ -11,6 +11,7 @@ use Rattle.chip_words.specs.BusPart.{BusPart}
 use Rattle.chip_words.specs.Access.{sys_asked}
 use Rattle.chip_words.specs.Script.{Ran, run}
 use Rattle.chip_words.specs.Steps.{begun}
+use Rattle.bus_fabric.specs.Fabric.{RESET_VECTOR}
 use Rattle.chip_core.specs.declared.boots.Place.{Place}
 use Rattle.chip_core.specs.declared.boots.BootStep.{BootStep}
 use Rattle.chip_core.specs.declared.boots.BootStep.TheVariants.{Going, Ended, NotBuilt}
@@ -41,10 +42,7 @@ without_step chip = record { chip = chip; vector = None; noted = 0; cause = None
 abbrev pub stopped : State → State
 stopped chip = record chip { bus = record (chip.bus) { stop = true } }
 
--- the address of the reset vector (SLAS704, interrupt vector table), and the word of one that was never written
-abbrev pub RESET_VECTOR : ℕ
-RESET_VECTOR = 0xFFFE
-
+-- the word of a reset vector that was never written
 abbrev pub no_vector : ℕ
 no_vector = 0xFFFF
 

@@ -12,7 +12,8 @@ ghost use Rattle.chip_core.specs.Tick.{aclk_edge, after_bor, after_event, after_
 
 use crate::Lines;
 use crate::boots::Place;
-use crate::fabric::Fabric;
+use crate::images::image_memory;
+use bus_fabric::Fabric;
 use chip_words::{DEBUG_RESET, NoMemory, POWER_ON, Regs, SOFTWARE_BOR, SR};
 use elf_image::Image;
 use port_unit::Pins;
@@ -56,13 +57,18 @@ impl Model for Chip {
 
 impl Chip {
     /// The chip before its first tick: power is off, FRAM is the image's, and SRAM is the bench's fill.
+    #[tactic(auto, using(crate::proofs::FirstMemory::is_first_memory))]
     pub fn build(alloc: Global, image: &Image<'_>, bench: &Bench) -> Result<Chip, NoMemory>
         ensures { IfOk result (λ chip. chip ≡ first_state image.now bench.now.fill) }
     {
-        let fabric = match Fabric::build(alloc, image, bench.fill()) {
+        let mut fabric = match Fabric::build(alloc, 0, bench.fill()) {
             Ok(fabric) => fabric,
             Err(e) => return Err(e),
         };
+        match image_memory(alloc, image) {
+            Ok(memory) => fabric.load_fram(memory.as_slice()),
+            Err(e) => return Err(e),
+        }
         Ok(Chip {
             fabric,
             regs: Regs::zero(),

@@ -4,14 +4,11 @@
 use arrayvec::ArrayVec;
 use trace_print::TraceItem;
 
-mod accesses;
 mod boots;
 mod chips;
 mod entries;
-mod fabric;
-mod first_memory;
+mod images;
 mod lines;
-mod peripherals;
 mod pin_lines;
 mod turns;
 

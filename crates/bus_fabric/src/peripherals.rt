@@ -16,7 +16,7 @@ use chip_words::{
 use port_unit::Pins;
 
 impl Fabric {
-    ghost use Rattle.chip_core.specs.Fabric.{ChangesUnits, units_of};
+    ghost use Rattle.bus_fabric.specs.Fabric.{ChangesUnits, units_of};
 
     /// A BOR or a PUC of the peripherals, with its cause.
     pub fn reset(&mut self, bor: bool, cause: u8)
@@ -26,6 +26,7 @@ impl Fabric {
         self.sys.taken(cause);
         self.ports.reset(bor);
         self.timers.reset(bor);
+        self.dma.reset(bor);
     }
 
     /// The least cause that is requested.
@@ -40,7 +41,7 @@ impl Fabric {
     pub fn lines(&self) -> u16
         ensures lines { result ≡ units_lines (units_of self.now) }
     {
-        self.sys.lines() + self.timers.lines() + self.ports.lines()
+        self.sys.lines() + self.timers.lines() + self.dma.lines() + self.ports.lines()
     }
 
     /// An interrupt was entered: the flag of its line is cleared, where the line has a single one.
@@ -79,6 +80,7 @@ impl Fabric {
         if fired.reset {
             self.sys.request(WATCHDOG_INTERVAL);
         }
+        self.dma.fire(fired.triggers);
     }
 
     /// The pins, as the outside sees them while power is on.
@@ -100,6 +102,7 @@ impl Fabric {
             Some(UnitName::Sys) => self.sys.read(at, size),
             Some(UnitName::Timers) => self.timers.read(at, size),
             Some(UnitName::Ports) => self.ports.read(at, size, self.sys.locked()),
+            Some(UnitName::Dma) => self.dma.read(at, size),
             None => 0,
         }
     }
@@ -117,6 +120,7 @@ impl Fabric {
             Some(UnitName::Sys) => self.sys.write(at, size, value),
             Some(UnitName::Timers) => self.timers.write(at, size, value),
             Some(UnitName::Ports) => self.ports.write(at, size, value),
+            Some(UnitName::Dma) => self.dma.write(at, size, value),
             None => None,
         }
     }

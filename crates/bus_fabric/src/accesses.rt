@@ -2,7 +2,7 @@
 
 ghost use Rattle.std.specs.Prelude.{◌≡◌, ◌<◌};
 ghost use Rattle.memory_map.specs.declared.TheConstants.{MAIN_END};
-ghost use Rattle.chip_words.specs.Access.{access_allowed, access_by_right, access_memory, access_present, access_region, access_register, blank as blank_of, is_beyond_boot as is_beyond_boot_of, is_low_start as is_low_start_of, is_over, numbered, ones as ones_of, unchanged_answer, with_listed};
+ghost use Rattle.chip_words.specs.Access.{access_allowed, access_by_right, access_memory, access_present, access_region, access_register, blank as blank_of, is_beyond_boot as is_beyond_boot_of, is_low_start as is_low_start_of, ones as ones_of, unchanged_answer, with_listed};
 ghost use Rattle.chip_words.specs.BusPart.{HasRoom};
 ghost use Rattle.chip_words.specs.Map.{aligned as aligned_at, region_at};
 ghost use Rattle.chip_words.specs.Sizes.{IsByteOrWord, span};
@@ -67,7 +67,7 @@ fn access_nothing(kind: Kind, read: u32, value: u32) -> u32
 }
 
 impl Fabric {
-    ghost use Rattle.chip_core.specs.Fabric.{Accesses, Changes, ListsOne, bus_part_of};
+    ghost use Rattle.bus_fabric.specs.Fabric.{Accesses, Changes, ListsOne, bus_part_of};
 
     /// An access to a register of the peripherals.
     #[tactic(auto, unfolding(chip_words::specs::Units::periph))]
@@ -200,22 +200,10 @@ impl Fabric {
         self.list(who, kind, at, size, answer, true);
         answer
     }
-
-    /// Takes the number of the next write, and says whether the write is absent.
-    fn number(&mut self) -> bool
-        ensures numbers { Changes numbered self.old self.new }
-        ensures absent { result ≡ is_over (bus_part_of self.new).budget (bus_part_of self.new).writes }
-    {
-        self.writes = self.writes.saturating_add(1);
-        match self.budget {
-            Some(budget) => budget < self.writes,
-            None => false,
-        }
-    }
 }
 
 impl Bus for Fabric {
-    ghost use Rattle.chip_core.specs.Fabric.{bus_part_of};
+    ghost use Rattle.bus_fabric.specs.Fabric.{bus_part_of};
 
     ghost part = { bus_part_of };
 
@@ -234,9 +222,9 @@ impl Bus for Fabric {
     fn write(&mut self, who: Agent, at: u32, size: Size, value: u32) {
         let at = aligned(at, size);
         if self.number() {
-            self.list(who, Kind::Write, at, size, value, false);
-        } else {
             self.access_present(who, Kind::Write, at, size, value);
+        } else {
+            self.list(who, Kind::Write, at, size, value, false);
         }
     }
 }

@@ -1,19 +1,22 @@
 -- What the fabric means, and words for what its calls do.
-use Rattle.std.specs.Prelude.{◌≡◌, ℕ, ◌+◌, ◌≤◌, length}
+use Rattle.std.specs.Prelude.{◌≡◌, ℕ, ◌+◌, ◌≤◌, List, [], length, None, Option}
 use Rattle.chip_words.specs.Access.{Accessed}
 use Rattle.chip_words.specs.BusPart.{BusPart}
+use Rattle.chip_words.specs.Causes.{no_causes}
 use Rattle.chip_words.specs.Units.{Units}
-use Rattle.chip_core.specs.declared.fabric.Fabric.{Fabric}
+use Rattle.bus_fabric.specs.declared.fabric.Fabric.{Fabric}
 
 abbrev pub units_of : Fabric → Units
-units_of fabric = record { sys = fabric.sys; ports = fabric.ports; timers = fabric.timers }
+units_of fabric = record { sys = fabric.sys; ports = fabric.ports; timers = fabric.timers; dma = fabric.dma }
 
 -- no unit that notes violations is built
 abbrev pub bus_part_of : Fabric → BusPart
 bus_part_of fabric = record {
   memory = (fabric.memory).items;
   units = units_of fabric;
+  kept = fabric.kept;
   fill = fabric.fill;
+  nmi = fabric.nmi;
   budget = fabric.budget;
   writes = fabric.writes;
   noted = 0;
@@ -30,6 +33,10 @@ Changes change old new = bus_part_of new ≡ change (bus_part_of old)
 abbrev pub ChangesUnits : (Units → Units) → Fabric → Fabric → Type 0
 ChangesUnits change old new = bus_part_of new ≡ record (bus_part_of old) { units = change (units_of old) }
 
+-- memory changes so, and nothing else does
+abbrev pub ChangesMemory : (List ℕ → List ℕ) → Fabric → Fabric → Type 0
+ChangesMemory change old new = bus_part_of new ≡ record (bus_part_of old) { memory = change (bus_part_of old).memory }
+
 -- an access answers, and leaves the bus part, so
 pub record Accesses (access : BusPart → Accessed) (old : Fabric) (answer : ℕ) (new : Fabric) : Type 0 where
   pub answers : answer ≡ (access (bus_part_of old)).answer
@@ -38,3 +45,15 @@ pub record Accesses (access : BusPart → Accessed) (old : Fabric) (answer : ℕ
 -- at most one access joins the list of the step
 abbrev pub ListsOne : Fabric → Fabric → Type 0
 ListsOne old new = length (bus_part_of new).accesses ≤ length (bus_part_of old).accesses + 1
+
+-- the address of the reset vector (SLAS704, interrupt vector table)
+abbrev pub RESET_VECTOR : ℕ
+RESET_VECTOR = 0xFFFE
+
+-- a tick begins with no write counted, and may have so many, where its power is cut
+abbrev pub tick_begun : Option ℕ → BusPart → BusPart
+tick_begun budget part = record part { budget = budget; writes = 0 }
+
+-- a tick ends with no write counted, and with an empty list and no causes of a step
+abbrev pub tick_ended : BusPart → BusPart
+tick_ended part = record part { budget = None; writes = 0; accesses = []; causes = no_causes }

@@ -1,0 +1,3 @@
+pub mod MemoryBy
+pub mod Places
+pub mod Writes

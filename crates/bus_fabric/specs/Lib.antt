@@ -1,0 +1,3 @@
+pub mod Memory
+pub mod FirstBus
+pub mod Fabric
