@@ -1,4 +1,4 @@
-ghost use Rattle.std.specs.Prelude.{◌≡◌, ◌<◌, true, not, IfOk, IfSome, IsTrue, length, slice_index, slice_set, vec_len};
+ghost use Rattle.std.specs.Prelude.{◌≡◌, ◌<◌, None, true, not, IfOk, IfSome, IsTrue, length, slice_index, slice_set, vec_len};
 ghost use Rattle.memory_map.specs.declared.TheConstants.{MAIN_END};
 ghost use Rattle.chip_words.specs.Access.{is_over, numbered, requested, sys_asked};
 ghost use Rattle.chip_words.specs.Causes.{least_cause};

@@ -5,8 +5,9 @@ use Rattle.std.proofs.lemmas.List.Elements.{All-append}
 use Rattle.trace_print.specs.declared.items.TraceItem.{TraceItem}
 use Rattle.trace_print.specs.declared.items.TraceItem.TheVariants.{On, Boot, Reset, Dead, Pin, Stop}
 use Rattle.trace_print.specs.Lines.{IsPrintable}
-use Rattle.chip_core.specs.declared.boots.Place.{Place}
 use Rattle.chip_core.specs.declared.boots.Place.TheVariants.{Start, Sig, Done}
+use Rattle.chip_core.specs.declared.owners.Owner.{Owner}
+use Rattle.chip_core.specs.declared.owners.Owner.TheVariants as of
 use Rattle.port_unit.specs.declared.pins.Pins.{Pins}
 use Rattle.port_unit.specs.Pins.{levels_of, same_levels}
 use Rattle.stimulus.specs.Stimulus.{Stimulus}
@@ -35,11 +36,13 @@ unfolding port_line
 port_line-IsPrintable port before after low high =
     either (same_levels (levels_of before port) (levels_of after port)) [] (Pin port (levels_of after port) ∷ []) none (one (Pin port (levels_of after port)) (low, high))
 
-boot_lines-IsPrintable : (place : Option Place) → All IsPrintable (boot_lines place)
-boot_lines-IsPrintable (Some Done) = one (Boot 0 0 0) (omega arith, omega arith)
-boot_lines-IsPrintable (Some Start) = none
-boot_lines-IsPrintable (Some Sig) = none
-boot_lines-IsPrintable None = none
+boot_lines-IsPrintable : (owner : Owner) → All IsPrintable (boot_lines owner)
+boot_lines-IsPrintable (of.Boot Done) = one (Boot 0 0 0) (omega arith, omega arith)
+boot_lines-IsPrintable (of.Boot Start) = none
+boot_lines-IsPrintable (of.Boot Sig) = none
+boot_lines-IsPrintable of.SecondTick = none
+boot_lines-IsPrintable (of.Transfer channel) = none
+boot_lines-IsPrintable of.Processor = none
 
 reset_lines-IsPrintable : (cause : Option ℕ) → All IsPrintable (reset_lines cause)
 reset_lines-IsPrintable (Some cause) = one (Reset cause) tt
@@ -56,18 +59,18 @@ pin_lines-IsPrintable before after =
     line : (port : ℕ) → 1 ≤ port → port ≤ 4 → All IsPrintable (port_line port before after)
     line port low high = port_line-IsPrintable port before after low high
 
-turn_lines-IsPrintable : (place : Option Place) (cause : Option ℕ) (before : Pins) (after : State) → All IsPrintable (turn_lines place cause before after)
-turn_lines-IsPrintable place cause before after =
-    either (after.bus).stop (Stop ∷ []) (boot_lines place ++ reset_lines cause ++ dead_lines place cause after ++ pin_lines before (pins_of after)) (one Stop tt)
-    (All-append IsPrintable (boot_lines place ++ reset_lines cause ++ dead_lines place cause after) (pin_lines before (pins_of after))
-    (All-append IsPrintable (boot_lines place ++ reset_lines cause) (dead_lines place cause after)
-    (All-append IsPrintable (boot_lines place) (reset_lines cause) (boot_lines-IsPrintable place) (reset_lines-IsPrintable cause))
-    (either (is_restart place cause && after.dead) (Dead ∷ []) [] (one Dead tt) none))
+turn_lines-IsPrintable : (owner : Owner) (cause : Option ℕ) (before : Pins) (after : State) → All IsPrintable (turn_lines owner cause before after)
+turn_lines-IsPrintable owner cause before after =
+    either (after.bus).stop (Stop ∷ []) (boot_lines owner ++ reset_lines cause ++ dead_lines owner cause after ++ pin_lines before (pins_of after)) (one Stop tt)
+    (All-append IsPrintable (boot_lines owner ++ reset_lines cause ++ dead_lines owner cause after) (pin_lines before (pins_of after))
+    (All-append IsPrintable (boot_lines owner ++ reset_lines cause) (dead_lines owner cause after)
+    (All-append IsPrintable (boot_lines owner) (reset_lines cause) (boot_lines-IsPrintable owner) (reset_lines-IsPrintable cause))
+    (either (is_restart owner cause && after.dead) (Dead ∷ []) [] (one Dead tt) none))
     (pin_lines-IsPrintable before (pins_of after)))
 
 pub printable : (bench : Stimulus) (chip : State) → All IsPrintable (lines_of bench chip)
 unfolding lines_of
 printable bench chip =
     let tick : Moments = moments bench chip in
-    All-append IsPrintable (power_lines tick.before) (turn_lines (tick.ready).boot (taken_cause (tick.turn).chip) (pins_of tick.before) tick.after) (either (tick.before).powered [] (On ∷ []) none (one On tt))
-    (turn_lines-IsPrintable (tick.ready).boot (taken_cause (tick.turn).chip) (pins_of tick.before) tick.after)
+    All-append IsPrintable (power_lines tick.before) (turn_lines tick.owner (taken_cause (tick.turn).chip) (pins_of tick.before) tick.after) (either (tick.before).powered [] (On ∷ []) none (one On tt))
+    (turn_lines-IsPrintable tick.owner (taken_cause (tick.turn).chip) (pins_of tick.before) tick.after)

@@ -30,5 +30,6 @@ first_state image fill = record {
   powered = false;
   boot = Some Start;
   dead = false;
+  second_tick = false;
   tick = 0;
 }

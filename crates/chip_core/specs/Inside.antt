@@ -11,5 +11,6 @@ state_of chip = record {
   powered = chip.powered;
   boot = chip.boot;
   dead = chip.dead;
+  second_tick = chip.second_tick;
   tick = chip.tick;
 }

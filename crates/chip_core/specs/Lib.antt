@@ -3,6 +3,7 @@ pub mod Entry
 pub mod State
 pub mod FirstState
 pub mod Pins
+pub mod Owners
 pub mod Turns
 pub mod Tick
 pub mod Lines

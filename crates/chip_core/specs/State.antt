@@ -13,5 +13,7 @@ pub record State : Type 0 where
   pub boot : Option Place
   -- the processor stands still, since there was no reset vector
   pub dead : Bool
+  -- the second tick of a transfer of DMA is next
+  pub second_tick : Bool
   -- the number of the next tick
   pub tick : ℕ

@@ -16,7 +16,8 @@ use Rattle.stimulus.specs.Stimulus.{Stimulus}
 use Rattle.chip_core.specs.declared.boots.Place.{Place}
 use Rattle.chip_core.specs.declared.boots.Place.TheVariants.{Start}
 use Rattle.chip_core.specs.State.{State}
-use Rattle.chip_core.specs.Turns.{Turn, at_reset_vector, owned}
+use Rattle.chip_core.specs.declared.owners.Owner.{Owner}
+use Rattle.chip_core.specs.Turns.{Turn, at_reset_vector, owned, owner_of}
 
 -- a BOR: all registers are 0, the peripherals have their values of reset, and a boot starts
 abbrev pub after_bor : ℕ → State → State
@@ -26,6 +27,7 @@ after_bor cause chip = record chip {
   busy = 0;
   boot = Some Start;
   dead = false;
+  second_tick = false;
 }
 
 -- by the power of the tick: where it comes on, the chip is as after a BOR
@@ -75,6 +77,7 @@ after_puc cause chip = at_reset_vector (record chip {
   bus = record (chip.bus) { units = units_at_reset false cause (chip.bus.units) };
   registers = with_register chip.registers SR 0;
   busy = 0;
+  second_tick = false;
 })
 
 abbrev pub after_cause : Option ℕ → State → State
@@ -99,20 +102,23 @@ pub record Moments : Type 0 where
   pub before : State
   -- when the owner of the bus acts
   pub ready : State
+  -- who owns the bus
+  pub owner : Owner
   -- what the owner made of its turn
   pub turn : Turn
   -- behind the reset
   pub after : State
 
-abbrev pub moments_with : State → State → Turn → Moments
-moments_with before ready turn = record { before = before; ready = ready; turn = turn; after = reset turn.chip }
+abbrev pub moments_with : State → State → Owner → Turn → Moments
+moments_with before ready owner turn =
+    record { before = before; ready = ready; owner = owner; turn = turn; after = reset turn.chip }
 
-abbrev pub moments_from : State → State → Moments
-moments_from before ready = moments_with before ready (owned ready)
+abbrev pub moments_from : State → State → Owner → Moments
+moments_from before ready owner = moments_with before ready owner (owned owner ready)
 
 -- the moments of the next tick
 unfoldable pub moments : Stimulus → State → Moments
-moments bench chip = moments_from chip (ready bench chip)
+moments bench chip = moments_from chip (ready bench chip) (owner_of (ready bench chip))
 
 -- the chip after its next tick, which has the next number
 unfoldable pub ticked : Stimulus → State → State

@@ -1,24 +1,31 @@
--- The turn of the bus owner: a step of the boot until it is done, and then an interrupt or an instruction.
+-- Who owns the bus in a tick, and what the owner makes of its turn: a step of the boot until it is done, a transfer of
+-- DMA, an interrupt or an instruction.
 use Rattle.std.specs.Prelude.{ℕ, ◌-◌, ◌==◌, nat_lt, Bool, true, false, if◌then◌else◌, List, Option, Some, None, slice_index}
 use Rattle.chip_words.specs.declared.sizes.Size.TheVariants.{Word}
-use Rattle.chip_words.specs.declared.accesses.Agent.TheVariants.{Cpu, Entry, Boot}
+use Rattle.chip_words.specs.declared.accesses.Agent.TheVariants as by
 use Rattle.chip_words.specs.Bits.{has_bit}
 use Rattle.chip_words.specs.Memory.{loaded}
 use Rattle.chip_words.specs.Registers.{CPUOFF, GIE, PC, SR, with_register}
 use Rattle.chip_words.specs.Causes.{RESERVED_WORD, least_cause, lesser_cause}
 use Rattle.chip_words.specs.Interrupts.{accepted, units_entered, units_lines}
+use Rattle.chip_words.specs.Dma.{Dma}
 use Rattle.chip_words.specs.BusPart.{BusPart}
 use Rattle.chip_words.specs.Access.{sys_asked}
 use Rattle.chip_words.specs.Script.{Ran, run}
 use Rattle.chip_words.specs.Steps.{begun}
 use Rattle.bus_fabric.specs.Fabric.{RESET_VECTOR}
 use Rattle.chip_core.specs.declared.boots.Place.{Place}
+use Rattle.chip_core.specs.declared.owners.Owner.{Owner}
+use Rattle.chip_core.specs.declared.owners.Owner.TheVariants.{Boot, SecondTick, Transfer, Processor}
 use Rattle.chip_core.specs.declared.boots.BootStep.{BootStep}
 use Rattle.chip_core.specs.declared.boots.BootStep.TheVariants.{Going, Ended, NotBuilt}
 use Rattle.cpux_execute.specs.declared.outcomes.Outcome.{Outcome}
 use Rattle.cpux_execute.specs.declared.outcomes.Outcome.TheVariants.{Cycles, Reserved}
 use Rattle.cpux_execute.specs.Execution.{Stepped}
 use Rattle.cpux_extended.specs.Instruction.{instruction}
+use Rattle.dma_unit.specs.declared.transfers.Move.{Move}
+use Rattle.dma_unit.specs.Moves.{transfer}
+use Rattle.dma_unit.specs.Transfers.{due, move_at, passed, transferred}
 use Rattle.chip_core.specs.Boot.{boot_step}
 use Rattle.chip_core.specs.Entry.{entry}
 use Rattle.chip_core.specs.State.{State}
@@ -66,7 +73,7 @@ abbrev pub boot_turn_from : Ran BootStep → State → State
 boot_turn_from ran chip = after_boot_step ran.value (record chip { bus = ran.part })
 
 unfoldable pub boot_turn : Place → State → State
-boot_turn place chip = boot_turn_from (run Boot (boot_step place) (begun chip.bus)) chip
+boot_turn place chip = boot_turn_from (run by.Boot (boot_step place) (begun chip.bus)) chip
 
 -- a reserved word asks for a reset, besides those that the accesses of its step request
 abbrev pub reserved_cause : Outcome → Option ℕ
@@ -97,7 +104,7 @@ instructed_from ran chip = record {
 -- the instruction at PC
 unfoldable pub instructed : State → Turn
 instructed chip =
-    instructed_from (run (Cpu (slice_index chip.registers PC)) (instruction chip.registers) (begun chip.bus)) chip
+    instructed_from (run (by.Cpu (slice_index chip.registers PC)) (instruction chip.registers) (begun chip.bus)) chip
 
 -- the processor does nothing
 abbrev pub is_off : State → Bool
@@ -128,7 +135,7 @@ entered_from vector ran chip = record {
 }
 
 unfoldable pub entered : ℕ → State → Turn
-entered vector chip = entered_from vector (run Entry (entry vector chip.registers) (begun chip.bus)) chip
+entered vector chip = entered_from vector (run by.Entry (entry vector chip.registers) (begun chip.bus)) chip
 
 -- an interrupt that is accepted comes before the instruction, and wakes a processor that is off
 abbrev pub free_turn : Option ℕ → State → Turn
@@ -142,10 +149,52 @@ processor_turn chip =
     else if chip.dead then without_step chip
     else free_turn (accepted_by chip) chip
 
-abbrev pub owner_turn : Option Place → State → Turn
-owner_turn (Some place) chip = without_step (boot_turn place chip)
-owner_turn None chip = processor_turn chip
+-- the registers of DMA changed
+abbrev pub with_dma : (Dma → Dma) → State → State
+with_dma change chip = record chip {
+  bus = record (chip.bus) { units = record (chip.bus.units) { dma = change (chip.bus.units).dma } };
+}
 
--- one owner has the bus: the boot until it is done, and then the processor
-unfoldable pub owned : State → Turn
-owned chip = owner_turn chip.boot chip
+abbrev pub moved_from : Ran ℕ → State → Turn
+moved_from ran chip = record {
+  chip = record chip { bus = ran.part; second_tick = true };
+  vector = None;
+  noted = (ran.part).noted;
+  cause = least_cause (ran.part).causes;
+}
+
+-- the first tick of a transfer has both of its accesses
+abbrev pub moved : Option Move → State → Turn
+moved (Some move) chip = moved_from (run by.Dma (transfer move) (begun chip.bus)) chip
+moved None chip = without_step chip
+
+-- the channel's counts come before the accesses, which go by the addresses from before
+unfoldable pub transfer_turn : ℕ → State → Turn
+transfer_turn channel chip =
+    moved (move_at channel ((chip.bus.units).dma).channels) (with_dma (transferred channel) chip)
+
+-- while the boot isn't done it owns the bus; then a transfer does, in both of its ticks, and else the processor
+abbrev pub owner_by : Option Place → Bool → Option ℕ → Owner
+owner_by (Some place) second channel = Boot place
+owner_by None true channel = SecondTick
+owner_by None false (Some channel) = Transfer channel
+owner_by None false None = Processor
+
+unfoldable pub owner_of : State → Owner
+owner_of chip = owner_by chip.boot chip.second_tick (due (chip.bus.units).dma)
+
+-- in a tick that DMA doesn't own the rests of its channels are lowered
+abbrev pub rested_by : Owner → State → State
+rested_by SecondTick chip = chip
+rested_by (Transfer channel) chip = chip
+rested_by owner chip = with_dma passed chip
+
+abbrev pub turn_of : Owner → State → Turn
+turn_of (Boot place) chip = without_step (boot_turn place chip)
+turn_of SecondTick chip = without_step (record chip { second_tick = false })
+turn_of (Transfer channel) chip = transfer_turn channel chip
+turn_of Processor chip = processor_turn chip
+
+-- the turn of the owner of the bus
+unfoldable pub owned : Owner → State → Turn
+owned owner chip = turn_of owner (rested_by owner chip)

@@ -42,6 +42,8 @@ pub struct Chip {
     pub(crate) powered: bool,
     pub(crate) boot: Option<Place>,
     pub(crate) dead: bool,
+    /// The second tick of a transfer of DMA is next.
+    pub(crate) second_tick: bool,
     pub(crate) tick: u32,
 }
 
@@ -76,6 +78,7 @@ impl Chip {
             powered: false,
             boot: Some(Place::Start),
             dead: false,
+            second_tick: false,
             tick: 0,
         })
     }
@@ -109,10 +112,10 @@ impl Chip {
         self.power(bench.power(self.tick), lines);
         self.stimulate(bench);
         self.time();
-        let place = self.boot;
-        self.own();
+        let owner = self.owner();
+        self.own(owner);
         let cause = self.reset();
-        self.tell(place, cause, pins, lines);
+        self.tell(owner, cause, pins, lines);
         self.fabric.end_tick();
         self.tick = next;
     }
@@ -152,6 +155,7 @@ impl Chip {
         self.busy = 0;
         self.boot = Some(Place::Start);
         self.dead = false;
+        self.second_tick = false;
     }
 
     /// A PUC with a cause.
@@ -161,6 +165,7 @@ impl Chip {
         self.fabric.reset(false, cause);
         self.regs.set(SR, 0);
         self.busy = 0;
+        self.second_tick = false;
         self.load_vector();
     }
 

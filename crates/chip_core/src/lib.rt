@@ -9,6 +9,7 @@ mod chips;
 mod entries;
 mod images;
 mod lines;
+mod owners;
 mod pin_lines;
 mod turns;
 

@@ -7,51 +7,46 @@ ghost use Rattle.chip_core.specs.Lines.{boot_lines, dead_lines, reset_lines, tur
 use crate::Lines;
 use crate::boots::Place;
 use crate::chips::Chip;
+use crate::owners::Owner;
 use crate::pin_lines::tell_changes;
 use port_unit::Pins;
 use trace_print::TraceItem;
 
 impl Chip {
-    /// Adds what the tick shows behind its stimulus, from the place of the boot, the cause that was taken,
+    /// Adds what the tick shows behind its stimulus, from the owner of the bus, the cause that was taken,
     /// and the pins before it.
-    pub(crate) fn tell(
-        &self,
-        place: Option<Place>,
-        cause: Option<u8>,
-        before: Pins,
-        lines: &mut Lines,
-    )
+    pub(crate) fn tell(&self, owner: Owner, cause: Option<u8>, before: Pins, lines: &mut Lines)
         requires room { array_vec_len lines.old ≤ 10 }
-        ensures lines { lines.new.items ≡ lines.old.items ++ turn_lines place cause before self.now }
+        ensures lines { lines.new.items ≡ lines.old.items ++ turn_lines owner cause before self.now }
     {
         if self.is_stopped() {
             lines.push(TraceItem::Stop);
         } else {
-            tell_boot(place, lines);
+            tell_boot(owner, lines);
             tell_reset(cause, lines);
-            self.tell_dead(place, cause, lines);
+            self.tell_dead(owner, cause, lines);
             tell_changes(before, self.pins(), lines);
         }
     }
 
-    fn tell_dead(&self, place: Option<Place>, cause: Option<u8>, lines: &mut Lines)
+    fn tell_dead(&self, owner: Owner, cause: Option<u8>, lines: &mut Lines)
         requires room { array_vec_len lines.old ≤ 12 }
-        ensures lines { lines.new.items ≡ lines.old.items ++ dead_lines place cause self.now }
+        ensures lines { lines.new.items ≡ lines.old.items ++ dead_lines owner cause self.now }
         ensures count { array_vec_len lines.new ≤ array_vec_len lines.old + 1 }
     {
-        let is_restart = cause.is_some() || place == Some(Place::Done);
+        let is_restart = cause.is_some() || owner == Owner::Boot(Place::Done);
         if is_restart && self.dead {
             lines.push(TraceItem::Dead);
         }
     }
 }
 
-fn tell_boot(place: Option<Place>, lines: &mut Lines)
+fn tell_boot(owner: Owner, lines: &mut Lines)
     requires room { array_vec_len lines.old ≤ 10 }
-    ensures lines { lines.new.items ≡ lines.old.items ++ boot_lines place }
+    ensures lines { lines.new.items ≡ lines.old.items ++ boot_lines owner }
     ensures count { array_vec_len lines.new ≤ array_vec_len lines.old + 1 }
 {
-    if let Some(Place::Done) = place {
+    if owner == Owner::Boot(Place::Done) {
         lines.push(TraceItem::Boot(0, 0, 0));
     }
 }

@@ -1,11 +1,13 @@
 //! The turn of the bus owner.
 
 ghost use Rattle.std.specs.Prelude.{◌≡◌, ◌<◌};
-ghost use Rattle.chip_core.specs.Turns.{accepted_by, at_reset_vector, boot_turn, entered, free_turn, instructed, is_off as is_off_state, owned, processor_turn, takes_interrupts as takes_interrupts_state};
+ghost use Rattle.chip_core.specs.Owners.{IsChannel};
+ghost use Rattle.chip_core.specs.Turns.{accepted_by, at_reset_vector, boot_turn, entered, free_turn, instructed, is_off as is_off_state, owned, owner_of, processor_turn, rested_by, transfer_turn, takes_interrupts as takes_interrupts_state};
 
 use crate::boots::{self, BootStep, Place};
 use crate::chips::Chip;
 use crate::entries;
+use crate::owners::Owner;
 use chip_words::{PC, RESERVED_WORD};
 use cpux_extended::{Outcome, step};
 use interrupt_reset::best;
@@ -23,15 +25,59 @@ const GIE: u32 = 3;
 const CPUOFF: u32 = 4;
 
 impl Chip {
-    /// The turn of the bus owner: the boot until it is done, and then the processor.
-    #[tactic(auto, unfolding(crate::specs::Turns::owned))]
-    pub(crate) fn own(&mut self)
-        ensures chip { self.new ≡ (owned self.old).chip }
+    /// The owner of the bus in this tick.
+    #[tactic(auto, unfolding(crate::specs::Turns::owner_of))]
+    pub(crate) fn owner(&self) -> Owner
+        ensures owner { result ≡ owner_of self.now }
+        ensures channel { IsChannel result }
     {
-        match self.boot {
-            Some(place) => self.step_boot(place),
-            None => self.turn(),
+        if let Some(place) = self.boot {
+            return Owner::Boot(place);
         }
+        if self.second_tick {
+            return Owner::SecondTick;
+        }
+        match self.fabric.dma.due() {
+            Some(channel) => Owner::Transfer(channel),
+            None => Owner::Processor,
+        }
+    }
+
+    /// The turn of the owner of the bus.
+    #[tactic(auto, unfolding(crate::specs::Turns::owned))]
+    pub(crate) fn own(&mut self, owner: Owner)
+        requires channel { IsChannel owner }
+        ensures chip { self.new ≡ (owned owner self.old).chip }
+    {
+        self.rest_channels(owner);
+        match owner {
+            Owner::Boot(place) => self.step_boot(place),
+            Owner::SecondTick => self.second_tick = false,
+            Owner::Transfer(channel) => self.transfer(channel),
+            Owner::Processor => self.turn(),
+        }
+    }
+
+    /// Lowers the rests of the channels of DMA, in a tick that DMA doesn't own.
+    fn rest_channels(&mut self, owner: Owner)
+        ensures chip { self.new ≡ rested_by owner self.old }
+    {
+        match owner {
+            Owner::SecondTick | Owner::Transfer(_) => {}
+            Owner::Boot(_) | Owner::Processor => self.fabric.dma.pass(),
+        }
+    }
+
+    /// The first tick of a transfer, which makes both of its accesses.
+    #[tactic(auto, unfolding(crate::specs::Turns::transfer_turn))]
+    fn transfer(&mut self, channel: u8)
+        requires { channel < 3 }
+        ensures chip { self.new ≡ (transfer_turn channel self.old).chip }
+    {
+        let step = self.fabric.dma.transfer(channel);
+        self.fabric.begin_step();
+        dma_unit::make(step, &mut self.fabric);
+        self.second_tick = true;
     }
 
     /// One step of the boot.

@@ -1,5 +1,6 @@
 mod benches;
 mod cases;
+mod dma;
 mod images;
 mod interrupts;
 mod programs;
