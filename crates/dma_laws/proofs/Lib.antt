@@ -1,0 +1,4 @@
+pub mod Shapes
+pub mod Counted
+pub mod Copied
+pub mod Units

@@ -1,0 +1,4 @@
+pub mod Accesses
+pub mod Iterated
+pub mod Waits
+pub mod Copies
