@@ -1,0 +1,230 @@
+"""Random cases: an image and a bench from a seed and an index."""
+
+import random
+from dataclasses import dataclass, field
+
+import actions
+import dma_actions
+import dma_situations
+import timer_actions
+import timer_situations
+from bench import PINS, Bench, Event, bench_text
+from image import HEADER, Segment, image_bytes
+from programs import (
+    Style, random_instructions, random_program, stack_on_flags, stack_on_timers,
+)
+
+LONG_END = 40_000
+LONG_END_WITHOUT_TIMERS = 32_768
+SHARE_OF_REFUSED = 0.05
+SHARE_OF_DEAD_ENDS = 0.01
+
+RARE_INSTRUCTIONS = ((random_instructions, 0.3),)
+WAITS = ((actions.act_on_status, 2), (actions.wait, 2), (actions.watch_anything, 1))
+
+INSTRUCTIONS = Style(
+    weights=((random_instructions, 10), (actions.act_on_ports, 0.3), (actions.act_on_status, 0.3)),
+    interrupts=0.3, longest_chapter=40, loops=0.1,
+)
+SYSTEM = Style(
+    weights=(
+        (actions.act_on_system, 6), (actions.act_on_ports, 3), (actions.act_on_watchdog, 1.5),
+        (actions.wait, 1), (actions.act_on_status, 0.5), *RARE_INSTRUCTIONS,
+    ),
+    watchdog_runs=0.5, interrupts=0.2, longest_chapter=30,
+)
+INTERRUPTS = Style(
+    weights=(
+        (actions.enable_port_interrupts, 2), (actions.act_on_ports, 3), (actions.set_watchdog, 1),
+        (actions.act_on_watchdog, 0.5), (actions.act_on_system, 0.5), *WAITS, *RARE_INSTRUCTIONS,
+        (actions.act_while_locked, 0.3), (stack_on_flags, 0.6),
+    ),
+    watchdog_runs=0.5, interrupts=1.0,
+)
+LOOPS = Style(
+    weights=((actions.watch_anything, 5), (actions.wait, 1), (actions.show_register, 2),
+             (actions.set_watchdog, 1), (actions.act_on_ports, 2)),
+    watchdog_runs=0.6, interrupts=0.3, longest_chapter=10,
+)
+TIMERS = Style(
+    weights=((timer_actions.act_on_timers, 6), (timer_situations.act_in_a_situation, 8),
+             (actions.act_on_ports, 0.3), *WAITS,
+             (actions.act_on_watchdog, 0.2)),
+    interrupts=0.2, longest_chapter=16,
+)
+TIMERS_WITH_INTERRUPTS = Style(
+    weights=(
+        (timer_actions.set_up, 4), (timer_actions.act_on_timers, 4), (actions.act_on_status, 3),
+        (timer_situations.act_in_a_situation, 4), (stack_on_timers, 1), (stack_on_flags, 0.3),
+        (actions.enable_port_interrupts, 0.5), (actions.wait, 2), (actions.set_watchdog, 0.3),
+    ),
+    interrupts=1.0, longest_chapter=14,
+)
+DMA = Style(
+    weights=((dma_actions.act_on_dma, 4), (dma_situations.act_in_a_situation, 8),
+             (timer_actions.set_up, 0.3), (actions.act_on_ports, 0.3), (actions.wait, 0.7),
+             (actions.act_on_status, 0.3), *RARE_INSTRUCTIONS),
+    interrupts=0.15, longest_chapter=16,
+)
+DMA_WITH_INTERRUPTS = Style(
+    weights=(
+        (dma_actions.act_on_dma, 4), (dma_situations.act_in_a_situation_of_interrupts, 7),
+        (actions.act_on_status, 3), (timer_actions.set_up, 1), (actions.wait, 1),
+        (stack_on_timers, 0.2), (actions.enable_port_interrupts, 0.3),
+        (actions.set_watchdog, 0.3),
+    ),
+    interrupts=1.0, longest_chapter=14,
+)
+
+STYLES = {"instructions": INSTRUCTIONS, "system": SYSTEM, "interrupts": INTERRUPTS, "loops": LOOPS}
+STYLES_WITH_TIMERS = {
+    "timers": TIMERS, "timers and interrupts": TIMERS_WITH_INTERRUPTS,
+    "dma": DMA, "dma and interrupts": DMA_WITH_INTERRUPTS,
+}
+WEIGHT_OF_STYLE = {"instructions": 4, "system": 3, "interrupts": 3, "loops": 1, "timers": 5,
+                   "timers and interrupts": 5, "dma": 15, "dma and interrupts": 11}
+
+
+@dataclass
+class Case:
+    kind: str
+    segments: list[Segment] = field(default_factory=list)
+    bench: Bench | None = None
+    refused_image: bytes | None = None
+    refused_bench: bytes | None = None
+
+    def image_file(self) -> bytes:
+        if self.refused_image is not None:
+            return self.refused_image
+        return image_bytes(self.segments)
+
+    def bench_file(self) -> bytes | None:
+        if self.refused_bench is not None:
+            return self.refused_bench
+        return None if self.bench is None else bench_text(self.bench).encode()
+
+
+def random_case(seed: int, index: int, timers: bool) -> Case:
+    """The case of this index. It depends on nothing but the three numbers."""
+    rng = random.Random(f"{seed}/{index}/{timers}")
+    styles = STYLES | (STYLES_WITH_TIMERS if timers else {})
+    kinds = list(styles)
+    kind, = rng.choices(kinds, [WEIGHT_OF_STYLE[kind] for kind in kinds])
+    segments = random_program(rng, styles[kind], timers)
+    if rng.random() < SHARE_OF_DEAD_ENDS:
+        return dead_end(rng, segments, timers)
+    if rng.random() < 0.1:
+        overlap(rng, segments)
+    case = Case(kind, segments, random_bench(rng, timers))
+    if rng.random() < SHARE_OF_REFUSED:
+        spoil_files(rng, case, timers)
+    return case
+
+
+def dead_end(rng: random.Random, segments: list[Segment], timers: bool) -> Case:
+    """No reset vector, in a run that is long enough for the watchdog to ask for a reset."""
+    segments.append(Segment(0xFFFE, bytes((0xFF, 0xFF))))
+    end = LONG_END if timers else LONG_END_WITHOUT_TIMERS
+    return Case("dead end", segments, Bench(end, 0, random_events(rng, end)))
+
+
+def overlap(rng: random.Random, segments: list[Segment]) -> None:
+    """Headers that name an address twice, and bytes that are loaded nowhere."""
+    earlier = rng.choice(segments)
+    noise = bytes(rng.randrange(256) for _ in range(rng.randrange(1, 20)))
+    segments.insert(0, Segment(earlier.address, noise))
+    place = rng.choice((0x17FC, 0x19FC, 0x1C00, 0x43FC, 0x13FFC, 0xFFFFC, 0xFFFFFFFC, 0))
+    segments.append(Segment(rng.choice((place, earlier.address + 0x100000)), noise[:8]))
+    segments.append(Segment(earlier.address, noise, kind=rng.choice((0, 2, 4, 0x70000001))))
+    segments.append(Segment(rng.choice((0x4400, 0x1800)), b""))
+
+
+# Benches
+
+def random_bench(rng: random.Random, timers: bool) -> Bench | None:
+    if rng.random() < 0.03:
+        return None
+    fill = rng.choice((0, 0, 0xFF, 0x03, 0x13, rng.randrange(256)))
+    end = random_end(rng, timers)
+    return Bench(end, fill, random_events(rng, end))
+
+
+def random_end(rng: random.Random, timers: bool) -> int:
+    chance = rng.random()
+    if chance < 0.03:
+        return rng.randrange(1, 40)
+    if chance < 0.6:
+        return rng.randrange(100, 1200)
+    if chance < 0.93:
+        return rng.randrange(1200, 3500)
+    if chance < 0.99:
+        return rng.randrange(3500, 9000)
+    return LONG_END if timers else LONG_END_WITHOUT_TIMERS
+
+
+def random_events(rng: random.Random, end: int) -> list[Event]:
+    """Events in clusters of up to 8 in a tick, on few pins or on many."""
+    if rng.random() < 0.15:
+        return []
+    pins = rng.sample(list(PINS.values()), rng.choice((1, 2, 4, 8, 32)))
+    last = end if rng.random() < 0.7 else min(end, 600)
+    ticks = sorted(rng.randrange(last) for _ in range(rng.choice((1, 5, 20, 60, 150))))
+    if rng.random() < 0.2:
+        ticks += [rng.randrange(min(end, 8)) for _ in range(4)]
+    events: list[Event] = []
+    for tick in sorted(set(ticks)):
+        count = rng.choice((1, 1, 1, 2, 3, 8))
+        events += [Event(tick, rng.choice(pins), rng.randrange(2)) for _ in range(count)]
+    return events
+
+
+# Files that are refused, most of them
+
+def spoil_files(rng: random.Random, case: Case, timers: bool) -> None:
+    case.kind = "spoiled files"
+    if rng.random() < 0.5:
+        case.refused_image = spoiled_image(rng, case.image_file())
+    else:
+        file = case.bench_file() or b"version = 1\nend = 9\n"
+        case.refused_bench = spoiled_bench(rng, file, timers)
+
+
+def spoiled_image(rng: random.Random, file: bytes) -> bytes:
+    changed = bytearray(file)
+    kind = rng.randrange(4)
+    if kind == 0:
+        return file[:rng.choice((0, 4, 51, 52, 53, 84, rng.randrange(len(file)), len(file) - 1))]
+    if kind == 1:
+        place = rng.choice((0, 1, 3, 4, 5, 6, 7, 16, 17, 18, 19, 20, 40))
+        changed[place] ^= 1 << rng.randrange(8)
+    elif kind == 2:
+        place = rng.randrange(HEADER.size)
+        changed[place] = rng.choice((0, 1, 0xFF, rng.randrange(256)))
+    else:
+        place = HEADER.size + rng.randrange(64)
+        changed[place] = rng.choice((0, 1, 0xFF, changed[place] ^ 1 << rng.randrange(8)))
+    return bytes(changed)
+
+
+def spoiled_bench(rng: random.Random, file: bytes, timers: bool) -> bytes:
+    text = file.decode()
+    least = "version = 1\nend = 20\nfill = 5\n"
+    longest = 10_000_000 if timers else LONG_END_WITHOUT_TIMERS
+    event = '\n[[event]]\ntick = 0\npin = "P1.0"\nlevel = 1\n'
+    one = least + event
+    return rng.choice((
+        one.replace("version = 1", rng.choice(("version = 2", "version = 1.0", "", "version"))),
+        one.replace("end = ", rng.choice(("end = 0x", "end = -", "ends = ", "end = 1_0"))),
+        one.replace("fill = ", rng.choice(("fill = 25", "fill = +", "full = ", "fill = 1e"))),
+        one.replace("P1", rng.choice(("P0", "p1", "P5", "P2", "P1 "))),
+        one.replace("level = 1", rng.choice(("level = true", "level = true", "level = 2", ""))),
+        one.replace("tick = ", rng.choice(("tick = -", "tick = +", "tock = ", "tick = 9"))),
+        f"version = 1\nend = {longest + 1}\n",
+        least + event * rng.choice((7, 8, 9)),
+        least + event * 9,
+        least + event * 3 + "extra = 1\n",
+        rng.choice(("event = []\n", "event = {}\n", "event = [1]\n", "cut = []\n", "# \n")) + text,
+        text + "\xff",
+    )).encode(rng.choice(("utf-8", "utf-8", "latin-1")), errors="replace")
+
+

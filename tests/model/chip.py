@@ -1,0 +1,196 @@
+"""The chip and its tick: power, stimulus, timers, bus owner, reset (MACHINE.md, A tick)."""
+
+from collections import Counter
+from enum import IntEnum
+
+import interrupts
+import trace
+from bench import Event
+from bus import Bus
+from clocks import edges_of
+from dma import Dma
+from execute import Done, step
+from interrupts import CPUOFF_BIT, PC, SR
+from memory import Memory
+from ports import Ports
+from registers import Registers
+from system import CAUSES_OF_BOR, Cause, System
+from timers import built_timers
+from watchdog import Watchdog
+
+SIGNATURE_ADDRESS = 0xFF88
+SIGNATURE = 0xAAAA
+RESET_VECTOR = 0xFFFE
+NO_VECTOR = 0xFFFF
+
+
+class BootStep(IntEnum):
+    """The boot step that comes next."""
+
+    START = 0
+    SIGNATURE = 1
+    DONE = 2
+    NONE = 3
+
+
+class Chip:
+    def __init__(self, store: bytearray, fill: int, statistics: Counter, with_timers: bool):
+        self.statistics = statistics
+        self.number = 0
+        self.stopped = False
+        self.lines: list[str] = []
+        self.requests: set[Cause] = set()
+        self.registers = Registers()
+        self.busy = 0
+        self.dead = False
+        self.boot_step = BootStep.START
+        self.memory = Memory(store, fill)
+        self.system = System(self.requests.add)
+        self.ports = Ports(lambda: self.system.locked)
+        self.watchdog = Watchdog(self.requests.add, self.system.set_watchdog_flag)
+        self.dma = Dma(statistics)
+        self.timers = ()
+        units = [self.system, self.ports, self.watchdog]
+        if with_timers:
+            self.timers = built_timers(statistics, self.dma.trigger_of_timer)
+            units += [*self.timers, self.dma]
+        self.bus = Bus(self.memory, units, self.requests.add)
+        self.interrupt_lines = interrupts.lines_of(
+            self.system, self.ports, self.timers, self.dma
+        )
+        self.drives = self.ports.what_drives()
+        self.levels = self.ports.levels()
+
+    def tick(self, events: list[Event]) -> list[str]:
+        """One tick, and its lines. Where it can't be done, `stopped` says so."""
+        self.lines = []
+        self.power()
+        self.stimulus(events)
+        self.take_edges()
+        self.owner_acts()
+        if self.bus.stopped or self.stopped:
+            self.stopped = True
+            return []
+        self.take_reset()
+        self.compare_levels()
+        self.number += 1
+        return self.lines
+
+    def power(self) -> None:
+        if self.number == 0:
+            self.power_on_reset(Cause.POWER_ON)
+            self.lines.append(trace.on(self.number))
+
+    def stimulus(self, events: list[Event]) -> None:
+        for event in events:
+            self.ports.drive_from_outside(event.pin, event.level)
+
+    def take_edges(self) -> None:
+        if self.boot_step is not BootStep.NONE:
+            return
+        edges = edges_of(self.number, self.registers.get(SR))
+        if self.watchdog.take(edges):
+            self.statistics["watchdog intervals"] += 1
+        for timer in self.timers:
+            timer.take(edges)
+
+    # The bus owner
+
+    def owner_acts(self) -> None:
+        if self.boot_step is not BootStep.NONE:
+            self.boot_acts()
+        elif self.dma.acts(self.bus):
+            return
+        else:
+            self.processor_acts()
+        self.dma.lower_rests()
+
+    def boot_acts(self) -> None:
+        if self.boot_step is BootStep.SIGNATURE:
+            if self.memory.read_word(SIGNATURE_ADDRESS) == SIGNATURE:
+                self.stopped = True
+        elif self.boot_step is BootStep.DONE:
+            self.lines.append(trace.boot(self.number))
+            self.load_reset_vector()
+        self.boot_step = BootStep(self.boot_step + 1)
+
+    def load_reset_vector(self) -> None:
+        vector = self.memory.read_word(RESET_VECTOR)
+        self.registers.set(PC, vector & 0xFFFE)
+        self.dead = vector == NO_VECTOR
+        if self.dead:
+            self.lines.append(trace.dead(self.number))
+            self.statistics["dead ends"] += 1
+
+    def processor_acts(self) -> None:
+        if self.busy > 0:
+            self.busy -= 1
+            return
+        if self.dead:
+            return
+        status = self.registers.get(SR)
+        line = interrupts.accepted(self.interrupt_lines, status)
+        if line is not None:
+            self.statistics[f"entry {line.vector:04X}"] += 1
+            self.busy = interrupts.enter(line, self.registers, self.bus) - 1
+        elif status & CPUOFF_BIT:
+            self.statistics["ticks asleep"] += 1
+        else:
+            self.execute()
+
+    def execute(self) -> None:
+        outcome = step(self.registers, self.bus)
+        self.statistics[f"form {outcome.form}"] += 1
+        if isinstance(outcome, Done):
+            self.busy = outcome.cycles - 1
+        else:
+            self.requests.add(Cause.RESERVED_WORD)
+
+    # Resets
+
+    def take_reset(self) -> None:
+        if not self.requests:
+            return
+        cause = min(self.requests)
+        self.statistics[f"reset {cause:02X}"] += 1
+        self.lines.append(trace.reset(self.number, cause))
+        if cause in CAUSES_OF_BOR:
+            self.power_on_reset(cause)
+        else:
+            self.plain_reset(cause)
+
+    def power_on_reset(self, cause: Cause) -> None:
+        for register in range(16):
+            self.registers.set(register, 0)
+        self.dead = False
+        self.boot_step = BootStep.START
+        self.reset_units(cause)
+
+    def plain_reset(self, cause: Cause) -> None:
+        self.registers.set(SR, 0)
+        self.reset_units(cause)
+        self.load_reset_vector()
+
+    def reset_units(self, cause: Cause) -> None:
+        self.requests.clear()
+        self.busy = 0
+        self.system.reset(cause)
+        self.ports.reset()
+        self.watchdog.reset()
+        for timer in self.timers:
+            timer.reset()
+        self.dma.reset()
+
+    # The end of a tick
+
+    def compare_levels(self) -> None:
+        drives = self.ports.what_drives()
+        if drives == self.drives:
+            return
+        self.drives = drives
+        before, after = self.levels, self.ports.levels()
+        self.levels = after
+        for port in range(1, 5):
+            if before[port - 1] != after[port - 1]:
+                self.lines.append(trace.pin(self.number, port, after[port - 1]))
+                self.statistics["PIN lines"] += 1

@@ -1,0 +1,79 @@
+"""Where the parts of a case's program lie: code in slots of FRAM, and single words as vectors."""
+
+import random
+
+import assembler
+from image import Segment
+
+SLOT_SIZE = 0x400
+LOW_SLOTS = range(0x4400, 0xFC00, SLOT_SIZE)
+HIGH_SLOTS = range(0x10000, 0x14000, SLOT_SIZE)
+INFORMATION = 0x1800
+INFORMATION_SIZE = 0x200
+
+
+class Code:
+    """Words that lie one behind another."""
+
+    def __init__(self, address: int, room: int, favourite_timer: int):
+        self.address = address
+        self.room = room
+        self.favourite_timer = favourite_timer
+        self.words: list[int] = []
+
+    @property
+    def here(self) -> int:
+        return self.address + 2 * len(self.words)
+
+    @property
+    def rest(self) -> int:
+        """How many words still have room."""
+        return self.room // 2 - len(self.words)
+
+    def put(self, words: list[int]) -> None:
+        self.words += words
+
+    def jump(self, name: str, target: int) -> None:
+        self.put(assembler.jump(name, self.here, target))
+
+    def segment(self) -> Segment:
+        return Segment(self.address, words_as_bytes(self.words))
+
+
+def words_as_bytes(words: list[int]) -> bytes:
+    return b"".join(word.to_bytes(2, "little") for word in words)
+
+
+class Program:
+    def __init__(self, rng: random.Random):
+        self.codes: list[Code] = []
+        self.single_words: dict[int, int] = {}
+        self.low_slots = rng.sample(LOW_SLOTS, len(LOW_SLOTS))
+        self.high_slots = rng.sample(HIGH_SLOTS, len(HIGH_SLOTS))
+        self.information_is_free = True
+        self.favourite_timer = rng.choice((0x0340, 0x0380, 0x03C0, 0x03C0))
+
+    def low_code(self) -> Code:
+        """Code below 10000h, where a vector can point."""
+        return self.code(self.low_slots.pop(), SLOT_SIZE)
+
+    def high_code(self) -> Code:
+        return self.code(self.high_slots.pop(), SLOT_SIZE)
+
+    def code_anywhere(self, rng: random.Random) -> Code:
+        chance = rng.random()
+        if chance < 0.05 and self.information_is_free:
+            self.information_is_free = False
+            return self.code(INFORMATION, INFORMATION_SIZE)
+        return self.high_code() if chance < 0.35 else self.low_code()
+
+    def code(self, address: int, room: int) -> Code:
+        code = Code(address, room, self.favourite_timer)
+        self.codes.append(code)
+        return code
+
+    def segments(self) -> list[Segment]:
+        segments = [code.segment() for code in self.codes if code.words]
+        for address, word in self.single_words.items():
+            segments.append(Segment(address, words_as_bytes([word])))
+        return segments

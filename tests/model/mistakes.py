@@ -1,0 +1,81 @@
+"""Puts mistakes into the model, one at a time, and tells which of them the cases find.
+
+This says how good the cases are: a mistake that none of them finds would be overlooked in the
+program too.
+"""
+
+import pickle
+import shutil
+import subprocess
+import sys
+import tempfile
+from concurrent.futures import ThreadPoolExecutor
+from dataclasses import dataclass
+from pathlib import Path
+
+import mistakes_of_dma
+import mistakes_of_instructions
+import mistakes_of_timers
+import mistakes_of_units
+from cases import random_case
+from comparison import answer_of_model
+from mistake import Mistake
+
+HERE = Path(__file__).resolve().parent
+NONE = "none"
+
+
+@dataclass(frozen=True)
+class Found:
+    mistake: Mistake
+    case: str  # what find_difference.py printed: an index and how it differs, or "none"
+
+
+def all_mistakes(timers: bool) -> list[Mistake]:
+    mistakes = [*mistakes_of_instructions.MISTAKES, *mistakes_of_units.MISTAKES]
+    if timers:
+        mistakes += [*mistakes_of_timers.MISTAKES, *mistakes_of_dma.MISTAKES]
+    return mistakes
+
+
+def write_cases(path: Path, count: int, seed: int, timers: bool) -> None:
+    """The files of each case, and the answer of the model without a mistake."""
+    cases = []
+    for index in range(count):
+        case = random_case(seed, index, timers)
+        answer = answer_of_model(case, timers)
+        known = (answer.output, answer.error, answer.status)
+        cases.append((case.image_file(), case.bench_file(), known))
+    path.write_bytes(pickle.dumps((timers, cases)))
+
+
+def find(mistake: Mistake, cases: Path) -> Found:
+    with tempfile.TemporaryDirectory() as folder:
+        model = Path(folder) / "model"
+        shutil.copytree(HERE, model, ignore=shutil.ignore_patterns("__pycache__"))
+        mistake.put_into(model)
+        command = [sys.executable, "-B", model / "find_difference.py", cases]
+        finished = subprocess.run(command, capture_output=True, text=True, check=True)
+    return Found(mistake, finished.stdout.strip())
+
+
+def try_all(count: int, seed: int, timers: bool, jobs: int, only: str) -> int:
+    """Prints a line for each mistake, and answers 1 where one wasn't found that can be."""
+    mistakes = [mistake for mistake in all_mistakes(timers) if only in mistake.name]
+    with tempfile.TemporaryDirectory() as folder:
+        cases = Path(folder) / "cases"
+        write_cases(cases, count, seed, timers)
+        with ThreadPoolExecutor(jobs) as pool:
+            results = list(pool.map(lambda mistake: find(mistake, cases), mistakes))
+    for result in results:
+        print(f"{result.case:>16}  {result.mistake.name}")
+    return tell_missed(results)
+
+
+def tell_missed(results: list[Found]) -> int:
+    missed = [result.mistake for result in results if result.case == NONE]
+    print(f"{len(results)} mistakes, {len(results) - len(missed)} found")
+    for mistake in missed:
+        reason = mistake.unseen_because
+        print(f"not found: {mistake.name}" + (f" ({reason})" if reason else ""))
+    return 1 if any(not mistake.unseen_because for mistake in missed) else 0

@@ -1,0 +1,45 @@
+"""The lines of a trace (TRACE.md)."""
+
+from ports import Levels
+
+
+def line(tick: int, text: str) -> str:
+    return f"{tick} {text}\n"
+
+
+def on(tick: int) -> str:
+    return line(tick, "ON")
+
+
+def boot(tick: int) -> str:
+    return line(tick, "BOOT 00 00000 00000")
+
+
+def reset(tick: int, cause: int) -> str:
+    return line(tick, f"RST {cause:02X}")
+
+
+def dead(tick: int) -> str:
+    return line(tick, "DEAD")
+
+
+def pin(tick: int, port: int, levels: Levels) -> str:
+    return line(tick, f"PIN P{port} {pins_text(levels)}")
+
+
+def pins_text(levels: Levels) -> str:
+    return "".join(pin_character(levels, bit) for bit in reversed(range(8)))
+
+
+def pin_character(levels: Levels, bit: int) -> str:
+    if levels.driven >> bit & 1 == 0:
+        return "z"
+    return "1" if levels.high >> bit & 1 else "0"
+
+
+def stop(tick: int) -> str:
+    return line(tick, "STOP")
+
+
+def end(tick: int) -> str:
+    return line(tick, "END")
