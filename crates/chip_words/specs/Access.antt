@@ -1,20 +1,24 @@
 -- One access to the bus: what it answers, and the bus part of the chip behind it. Its rules come in this order: the
 -- address of a word, the number of a write and whether it is absent, the first word of an instruction,
 -- the right, and the region.
-use Rattle.std.specs.Prelude.{ℕ, ◌+◌, min, ◌==◌, ◌&&◌, ◌||◌, not, nat_lt, Bool, true, false, if◌then◌else◌, List, [], ◌∷◌, ◌++◌, Option, Some, None}
+use Rattle.std.specs.Prelude.{ℕ, ◌+◌, ◌^◌, bit_or, min, ◌==◌, ◌&&◌, ◌||◌, not, nat_lt, Bool, true, false, if◌then◌else◌, List, [], ◌∷◌, ◌++◌, Option, Some, None}
 use Rattle.chip_words.specs.declared.sizes.Size.{Size}
 use Rattle.chip_words.specs.declared.sizes.Size.TheVariants.{Byte}
 use Rattle.chip_words.specs.declared.accesses.Kind.{Kind}
 use Rattle.chip_words.specs.declared.accesses.Kind.TheVariants.{Fetch, Read, Write}
 use Rattle.chip_words.specs.declared.accesses.Agent.{Agent}
-use Rattle.chip_words.specs.declared.accesses.Agent.TheVariants.{Cpu, Debug, Boot}
+use Rattle.chip_words.specs.declared.accesses.Agent.TheVariants.{Cpu, Entry, Dma, Debug, Boot}
 use Rattle.chip_words.specs.declared.accesses.Access.{Access}
 use Rattle.chip_words.specs.declared.regions.Region.{Region}
 use Rattle.chip_words.specs.declared.regions.Region.TheVariants.{Periph, Descriptor, Vacant}
 use Rattle.chip_words.specs.Map.{region_at, is_fram, aligned}
 use Rattle.chip_words.specs.Memory.{loaded, stored}
 use Rattle.chip_words.specs.Causes.{PERIPHERAL_FETCH, with_cause}
-use Rattle.chip_words.specs.Right.{refusal}
+use Rattle.chip_words.specs.declared.segments.Segment.{Segment}
+use Rattle.chip_words.specs.declared.segments.Right.{Right}
+use Rattle.chip_words.specs.declared.segments.Right.TheVariants.{Yes, No}
+use Rattle.chip_words.specs.Segments.{flag_of}
+use Rattle.chip_words.specs.Right.{right_of}
 use Rattle.chip_words.specs.Sys.{sys_requested}
 use Rattle.chip_words.specs.Units.{Reply, Units, periph}
 use Rattle.chip_words.specs.BusPart.{BusPart}
@@ -82,10 +86,26 @@ abbrev pub is_beyond_boot : Agent → Kind → ℕ → Bool
 is_beyond_boot Boot Read at = not (is_fram at)
 is_beyond_boot who kind at = false
 
--- an access by its right: by the place that refuses it, if any
-abbrev pub access_by_right : Option ℕ → Agent → Kind → ℕ → Size → ℕ → BusPart → Accessed
-access_by_right (Some place) who kind at size value part = access_nothing kind (blank size) value part
-access_by_right None who kind at size value part =
+-- the agents whose violations are noted
+abbrev pub is_watched : Agent → Bool
+is_watched (Cpu ia) = true
+is_watched Entry = true
+is_watched Dma = true
+is_watched who = false
+
+-- a place refuses an access of an agent
+abbrev pub violated : Agent → Segment → BusPart → BusPart
+violated who place part =
+    record part { noted = (if is_watched who then bit_or part.noted (2 ^ flag_of place) else part.noted) }
+
+-- an access without its right changes nothing, but that its place is noted
+abbrev pub access_refused : Agent → Segment → Kind → Size → ℕ → BusPart → Accessed
+access_refused who place kind size value part = access_nothing kind (blank size) value (violated who place part)
+
+-- an access by its right
+abbrev pub access_by_right : Right → Agent → Kind → ℕ → Size → ℕ → BusPart → Accessed
+access_by_right (No place) who kind at size value part = access_refused who place kind size value part
+access_by_right Yes who kind at size value part =
     if is_beyond_boot who kind at then record { answer = blank size; part = part }
     else access_region (region_at at) kind at size value part
 
@@ -98,7 +118,7 @@ is_low_start who kind at = false
 abbrev pub access_allowed : Agent → Kind → ℕ → Size → ℕ → BusPart → Accessed
 access_allowed who kind at size value part =
     if is_low_start who kind at then record { answer = blank size; part = requested (Some PERIPHERAL_FETCH) part }
-    else access_by_right (refusal part.units who kind at) who kind at size value part
+    else access_by_right (right_of part.units who kind at) who kind at size value part
 
 -- an access as the step's list has it; that of the debugger is in no list
 abbrev pub as_listed : Agent → Kind → ℕ → Size → ℕ → Bool → List Access

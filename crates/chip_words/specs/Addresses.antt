@@ -1,7 +1,7 @@
 -- The registers of the peripherals by address, and which unit an address is of (SLAS704, peripheral file map).
-use Rattle.std.specs.Prelude.{ℕ, ◌+◌, ◌-◌, ◌%◌, ◌&&◌, nat_le, nat_lt, if◌then◌else◌, List, [], ◌∷◌, Option, Some, None}
+use Rattle.std.specs.Prelude.{ℕ, ◌+◌, ◌-◌, ◌%◌, ◌&&◌, not, Bool, nat_le, nat_lt, if◌then◌else◌, List, [], ◌∷◌, Option, Some, None}
 use Rattle.chip_words.specs.declared.unit_names.UnitName.{UnitName}
-use Rattle.chip_words.specs.declared.unit_names.UnitName.TheVariants.{Sys, Timers, Ports, Dma}
+use Rattle.chip_words.specs.declared.unit_names.UnitName.TheVariants.{Sys, Timers, Ports, Dma, Fram, Mpu}
 
 abbrev pub SFRIE1 : ℕ
 SFRIE1 = 0x0100
@@ -14,6 +14,15 @@ PMMCTL0 = 0x0120
 
 abbrev pub PM5CTL0 : ℕ
 PM5CTL0 = 0x0130
+
+abbrev pub FRCTL0 : ℕ
+FRCTL0 = 0x0140
+
+abbrev pub GCCTL0 : ℕ
+GCCTL0 = 0x0144
+
+abbrev pub GCCTL1 : ℕ
+GCCTL1 = 0x0146
 
 abbrev pub WDTCTL : ℕ
 WDTCTL = 0x015C
@@ -69,6 +78,21 @@ DMAIV = 0x050E
 abbrev pub DMA0CTL : ℕ
 DMA0CTL = 0x0510
 
+abbrev pub MPUCTL0 : ℕ
+MPUCTL0 = 0x05A0
+
+abbrev pub MPUCTL1 : ℕ
+MPUCTL1 = 0x05A2
+
+abbrev pub MPUSEGB2 : ℕ
+MPUSEGB2 = 0x05A4
+
+abbrev pub MPUSEGB1 : ℕ
+MPUSEGB1 = 0x05A6
+
+abbrev pub MPUSAM : ℕ
+MPUSAM = 0x05A8
+
 -- so many bytes from an address on are of a unit
 pub record UnitRow : Type 0 where
   pub low : ℕ
@@ -78,22 +102,24 @@ pub record UnitRow : Type 0 where
 abbrev pub of_unit : ℕ → ℕ → UnitName → UnitRow
 of_unit low bytes unit = record { low = low; bytes = bytes; unit = unit }
 
--- The ports, the timers and DMA have all addresses of their stretches: those without a register read 0, and a write does
--- nothing to them. So it is with SYSSNIV, as long as no unit that it tells of is built.
+-- A unit has all addresses of its stretches: those without a register read 0, and a write does nothing to them.
 abbrev pub unit_rows : List UnitRow
 unit_rows =
     of_unit SFRIE1 4 Sys
     ∷ of_unit PMMCTL0 2 Sys
     ∷ of_unit PM5CTL0 2 Sys
+    ∷ of_unit FRCTL0 8 Fram
     ∷ of_unit WDTCTL 2 Timers
     ∷ of_unit CSCTL0 14 Sys
     ∷ of_unit SYSCTL 2 Sys
-    ∷ of_unit SYSSNIV 4 Sys
+    ∷ of_unit SYSSNIV 2 Mpu
+    ∷ of_unit SYSRSTIV 2 Sys
     ∷ of_unit PAIN 0x40 Ports
     ∷ of_unit TA0CTL TIMER_BYTES Timers
     ∷ of_unit TA1CTL TIMER_BYTES Timers
     ∷ of_unit TB0CTL TIMER_BYTES Timers
     ∷ of_unit DMACTL0 0x40 Dma
+    ∷ of_unit MPUCTL0 10 Mpu
     ∷ []
 
 -- the unit of the first row that has an address
@@ -101,9 +127,16 @@ abbrev pub unit_in : List UnitRow → ℕ → Option UnitName
 unit_in [] at = None
 unit_in (row ∷ rows) at = if nat_le row.low at && nat_lt at (row.low + row.bytes) then Some row.unit else unit_in rows at
 
--- the unit that an address is of; an address of none isn't built
+-- the unit that an address is of; where there is none an access reads 0 and changes nothing
 unfoldable pub unit_at : ℕ → Option UnitName
 unit_at at = unit_in unit_rows at
+
+-- the registers of IP Encapsulation, which alone aren't built
+abbrev pub MPUIPC0 : ℕ
+MPUIPC0 = 0x05AA
+
+abbrev pub is_built : ℕ → Bool
+is_built at = not (nat_le MPUIPC0 at && nat_lt at (MPUIPC0 + 6))
 
 -- the even address of the register that an address is of
 abbrev pub register_address : ℕ → ℕ

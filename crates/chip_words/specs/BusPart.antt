@@ -14,13 +14,13 @@ pub record BusPart : Type 0 where
   pub kept : Seal
   -- what SRAM holds when power comes on, which nothing changes
   pub fill : ℕ
-  -- an NMI is requested; nothing that is built requests one
+  -- an NMI is requested
   pub nmi : Bool
   -- how many writes of the tick are present, where its power is cut
   pub budget : Option ℕ
   -- how many writes the tick has had
   pub writes : ℕ
-  -- the places of the step's violations so far; no unit that notes any is built
+  -- the places of the step's violations so far, by the bits of their flags
   pub noted : ℕ
   -- the accesses of the step so far
   pub accesses : List Access

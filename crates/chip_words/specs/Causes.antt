@@ -25,6 +25,10 @@ WATCHDOG_INTERVAL = 0x16
 abbrev pub WATCHDOG_PASSWORD : ℕ
 WATCHDOG_PASSWORD = 0x18
 
+-- a write of FRCTL0 without the password
+abbrev pub FRAM_PASSWORD : ℕ
+FRAM_PASSWORD = 0x1A
+
 -- an instruction whose first word is in the peripherals
 abbrev pub PERIPHERAL_FETCH : ℕ
 PERIPHERAL_FETCH = 0x1E
@@ -32,6 +36,26 @@ PERIPHERAL_FETCH = 0x1E
 -- a write of PMMCTL0 without the password
 abbrev pub POWER_PASSWORD : ℕ
 POWER_PASSWORD = 0x20
+
+-- a write of MPUCTL0 without the password
+abbrev pub MPU_PASSWORD : ℕ
+MPU_PASSWORD = 0x22
+
+-- violations of the encapsulation, of information FRAM and of the segments
+abbrev pub SEALED_VIOLATION : ℕ
+SEALED_VIOLATION = 0x26
+
+abbrev pub INFO_VIOLATION : ℕ
+INFO_VIOLATION = 0x28
+
+abbrev pub SEGMENT_1_VIOLATION : ℕ
+SEGMENT_1_VIOLATION = 0x2A
+
+abbrev pub SEGMENT_2_VIOLATION : ℕ
+SEGMENT_2_VIOLATION = 0x2C
+
+abbrev pub SEGMENT_3_VIOLATION : ℕ
+SEGMENT_3_VIOLATION = 0x2E
 
 -- a reserved word, which is this project's own
 abbrev pub RESERVED_WORD : ℕ

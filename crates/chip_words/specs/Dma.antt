@@ -1,5 +1,5 @@
 -- The three channels of DMA (SLAU367, DMA controller). Which trigger has which number is this project's own.
-use Rattle.std.specs.Prelude.{ℕ, zero, suc, ◌+◌, ◌-◌, ◌*◌, ◌/◌, ◌%◌, ◌^◌, ◌==◌, nat_le, nat_lt, Bool, if◌then◌else◌, List, [], ◌∷◌, map, Option, Some, None, is_some, slice_index, bit_and}
+use Rattle.std.specs.Prelude.{ℕ, zero, suc, ◌+◌, ◌-◌, ◌*◌, ◌/◌, ◌%◌, ◌^◌, ◌==◌, nat_le, nat_lt, if◌then◌else◌, List, [], ◌∷◌, map, Option, Some, None, is_some, slice_index, bit_and}
 use Rattle.chip_words.specs.declared.sizes.Size.{Size}
 use Rattle.chip_words.specs.Addresses.{DMA0CTL, DMACTL0, DMACTL1, DMACTL4, DMAIV, register_address}
 use Rattle.chip_words.specs.Bits.{bit_word, has_bit, with_part}

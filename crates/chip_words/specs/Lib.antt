@@ -14,6 +14,9 @@ pub mod Ports
 pub mod Watchdog
 pub mod Timer
 pub mod Timers
+pub mod Segments
+pub mod Fram
+pub mod Mpu
 pub mod Channel
 pub mod Dma
 pub mod Units

@@ -1,9 +1,19 @@
 -- Rights: whether an agent may make an access, and which place refuses it.
-use Rattle.std.specs.Prelude.{ℕ, Option, None}
+use Rattle.std.specs.Prelude.{ℕ, Bool, true, false, if◌then◌else◌}
 use Rattle.chip_words.specs.declared.accesses.Kind.{Kind}
 use Rattle.chip_words.specs.declared.accesses.Agent.{Agent}
+use Rattle.chip_words.specs.declared.accesses.Agent.TheVariants.{Cpu, Dma}
+use Rattle.chip_words.specs.declared.segments.Right.{Right}
+use Rattle.chip_words.specs.declared.segments.Right.TheVariants.{Yes}
+use Rattle.chip_words.specs.Mpu.{segment_right}
 use Rattle.chip_words.specs.Units.{Units}
 
--- the place that refuses an access. No unit that refuses any is built, so each access has its right.
-unfoldable pub refusal : Units → Agent → Kind → ℕ → Option ℕ
-refusal units who kind at = None
+-- the agents that the segments judge
+abbrev pub is_segmented : Agent → Bool
+is_segmented (Cpu ia) = true
+is_segmented Dma = true
+is_segmented who = false
+
+-- the right of an access. The encapsulation, which is to be asked before the segments, isn't built
+unfoldable pub right_of : Units → Agent → Kind → ℕ → Right
+right_of units who kind at = if is_segmented who then segment_right units.mpu kind at else Yes

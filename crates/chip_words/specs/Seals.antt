@@ -1,5 +1,4 @@
 -- Sets of addresses of main FRAM that are sealed.
-use Rattle.std.specs.Prelude.{ℕ}
 use Rattle.chip_words.specs.declared.seals.Seal.{Seal}
 
 -- no address at all

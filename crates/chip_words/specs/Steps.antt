@@ -1,8 +1,16 @@
--- What a step over a bus does, by its script.
-use Rattle.std.specs.Prelude.{◌≡◌, []}
+-- How a step over a bus begins, runs and ends. A step is an instruction, an entry, a transfer or a boot step.
+use Rattle.std.specs.Prelude.{◌≡◌, ℕ, ◌*◌, count_by, ◌&&◌, ◌||◌, not, Bool, false, if◌then◌else◌, [], Option, Some, None}
 use Rattle.chip_words.specs.declared.accesses.Agent.{Agent}
+use Rattle.chip_words.specs.declared.segments.Segment.{Segment}
+use Rattle.chip_words.specs.declared.segments.Segment.TheVariants.{One, Two, Three, Info, Sealed}
+use Rattle.chip_words.specs.Access.{requested}
+use Rattle.chip_words.specs.Bits.{has_bit}
 use Rattle.chip_words.specs.BusPart.{BusPart}
 use Rattle.chip_words.specs.Causes.{no_causes}
+use Rattle.chip_words.specs.Fram.{waits_of}
+use Rattle.chip_words.specs.Map.{is_fram}
+use Rattle.chip_words.specs.Mpu.{Mpu, interrupts, mpu_flagged, resets_at}
+use Rattle.chip_words.specs.Segments.{cause_of_violation, flag_of}
 use Rattle.chip_words.specs.Script.{Script, run}
 
 -- a step begins with no access in its list, and with no cause
@@ -12,3 +20,45 @@ begun part = record part { accesses = []; causes = no_causes }
 -- a step answers the value, and leaves the bus part, that its script does
 abbrev pub RunsAs : {A : Type 0} → Agent → Script A → BusPart → A → BusPart → Type 0
 RunsAs who script old value new = (value ≡ (run who script old).value) × (new ≡ (run who script old).part)
+
+-- the accesses of a step to FRAM, refused and absent ones too
+abbrev pub fram_accesses : BusPart → ℕ
+fram_accesses part = count_by (λ access. is_fram access.at) part.accesses
+
+-- the cycles that FRAM adds to a step: NWAITS for each of them, as the step left it
+unfoldable pub waits_in : BusPart → ℕ
+waits_in part = waits_of (part.units).fram * fram_accesses part
+
+-- a violation at a place asks for a reset; VS of the encapsulation isn't built
+abbrev pub has_reset : Segment → Mpu → Bool
+has_reset Sealed mpu = false
+has_reset segment mpu = resets_at mpu segment
+
+-- the reset that a violation asks for, where it has one
+abbrev pub reset_at : Segment → Mpu → Option ℕ
+reset_at place mpu = if has_reset place mpu then Some (cause_of_violation place) else None
+
+-- a violation without a reset asks for the NMI, where it may
+abbrev pub has_interrupt : Segment → Mpu → Bool
+has_interrupt place mpu = not (has_reset place mpu) && interrupts mpu
+
+-- the end of a step at a place that was violated: its flag is set, and a reset or the NMI is asked for
+abbrev pub violation_ended : Segment → BusPart → BusPart
+violation_ended place part = requested (reset_at place (part.units).mpu) (record part {
+  units = record (part.units) { mpu = mpu_flagged place (part.units).mpu };
+  nmi = part.nmi || has_interrupt place (part.units).mpu;
+})
+
+-- the end of a step at a place, where it is one of those that were noted
+abbrev pub ended_at : ℕ → Segment → BusPart → BusPart
+ended_at noted place part = if has_bit noted (flag_of place) then violation_ended place part else part
+
+-- Behind the last access of a step each place that was noted sets its flag, and asks by the registers as the step left
+-- them. What a place asks for doesn't go by flags, so the order of the places decides nothing.
+unfoldable pub ended_with : ℕ → BusPart → BusPart
+ended_with noted part =
+    ended_at noted Three (ended_at noted Two (ended_at noted One (ended_at noted Info (ended_at noted Sealed part))))
+
+-- the end of a step
+abbrev pub step_ended : BusPart → BusPart
+step_ended part = ended_with part.noted (record part { noted = 0 })

@@ -21,11 +21,29 @@ pub const WATCHDOG_INTERVAL: u8 = 0x16;
 /// WDTCTL was written without its password.
 pub const WATCHDOG_PASSWORD: u8 = 0x18;
 
+/// FRCTL0 was written without its password.
+pub const FRAM_PASSWORD: u8 = 0x1A;
+
 /// The first word of an instruction was in the peripherals.
 pub const PERIPHERAL_FETCH: u8 = 0x1E;
 
 /// PMMCTL0 was written without its password.
 pub const POWER_PASSWORD: u8 = 0x20;
+
+/// MPUCTL0 was written without its password.
+pub const MPU_PASSWORD: u8 = 0x22;
+
+/// The encapsulation was violated.
+pub const SEALED_VIOLATION: u8 = 0x26;
+
+/// The segment of information FRAM was violated.
+pub const INFO_VIOLATION: u8 = 0x28;
+
+pub const SEGMENT_1_VIOLATION: u8 = 0x2A;
+
+pub const SEGMENT_2_VIOLATION: u8 = 0x2C;
+
+pub const SEGMENT_3_VIOLATION: u8 = 0x2E;
 
 /// An instruction is a reserved word, which is this project's own.
 pub const RESERVED_WORD: u8 = 0x40;

@@ -5,6 +5,9 @@ pub const VECTORS: [u32; 13] = [
     0xFFD0,
 ];
 
+/// The address of the NMI's vector.
+pub const NMI_VECTOR: u32 = 0xFFFC;
+
 // The numbers of lines: bit i of a word of lines is line i.
 
 /// CCTL0 of TB0.

@@ -1,5 +1,5 @@
 ghost use Rattle.std.specs.Prelude.{◌≡◌};
-ghost use Rattle.chip_words.specs.Addresses.{unit_at as unit_at_address};
+ghost use Rattle.chip_words.specs.Addresses.{is_built as is_built_address, unit_at as unit_at_address};
 
 /// A unit of the peripherals, which has some of their addresses.
 #[derive(Clone, Copy, Debug, PartialEq, Eq)]
@@ -12,6 +12,10 @@ pub enum UnitName {
     Ports,
     /// The three channels of DMA.
     Dma,
+    /// The FRAM controller.
+    Fram,
+    /// The memory protection unit, and SYSSNIV, which tells its flags.
+    Mpu,
 }
 
 pub const SFRIE1: u32 = 0x0100;
@@ -21,6 +25,12 @@ pub const SFRIFG1: u32 = 0x0102;
 pub const PMMCTL0: u32 = 0x0120;
 
 pub const PM5CTL0: u32 = 0x0130;
+
+pub const FRCTL0: u32 = 0x0140;
+
+pub const GCCTL0: u32 = 0x0144;
+
+pub const GCCTL1: u32 = 0x0146;
 
 pub const WDTCTL: u32 = 0x015C;
 
@@ -75,19 +85,45 @@ pub const DMA0CTL: u32 = 0x0510;
 /// The last byte of DMA.
 const DMA_LAST: u32 = 0x053F;
 
-/// The unit that an address of the peripherals is of, where one is built.
+pub const MPUCTL0: u32 = 0x05A0;
+
+pub const MPUCTL1: u32 = 0x05A2;
+
+pub const MPUSEGB2: u32 = 0x05A4;
+
+pub const MPUSEGB1: u32 = 0x05A6;
+
+pub const MPUSAM: u32 = 0x05A8;
+
+/// The first and the last register of IP Encapsulation, which alone isn't built.
+const MPUIPC0: u32 = 0x05AA;
+
+const MPUIPSEGB1_LAST: u32 = 0x05AF;
+
+/// Says whether the register at an address of the peripherals is built, or there is none.
+pub fn is_built(at: u32) -> bool
+    ensures { result ≡ is_built_address at }
+{
+    !(MPUIPC0..=MPUIPSEGB1_LAST).contains(&at)
+}
+
+/// The unit that an address of the peripherals is of, where there is one.
 #[tactic(auto, unfolding(crate::specs::Addresses::unit_at))]
 pub fn unit_at(at: u32) -> Option<UnitName>
     ensures { result ≡ unit_at_address at }
 {
     match at & !1 {
-        SFRIE1 | SFRIFG1 | PMMCTL0 | PM5CTL0 | CSCTL0..=CSCTL6 | SYSCTL | SYSSNIV | SYSRSTIV => {
-            Some(UnitName::Sys)
-        }
+        SFRIE1 | SFRIFG1 => Some(UnitName::Sys),
+        PMMCTL0 | PM5CTL0 => Some(UnitName::Sys),
+        FRCTL0..=GCCTL1 => Some(UnitName::Fram),
         WDTCTL => Some(UnitName::Timers),
+        CSCTL0..=CSCTL6 => Some(UnitName::Sys),
+        SYSCTL | SYSRSTIV => Some(UnitName::Sys),
+        SYSSNIV => Some(UnitName::Mpu),
         PAIN..=PORTS_LAST => Some(UnitName::Ports),
         TA0CTL..=TA0_LAST | TA1CTL..=TA1_LAST | TB0CTL..=TB0_LAST => Some(UnitName::Timers),
         DMACTL0..=DMA_LAST => Some(UnitName::Dma),
+        MPUCTL0..=MPUSAM => Some(UnitName::Mpu),
         _ => None,
     }
 }

@@ -15,7 +15,7 @@ use Rattle.chip_words.specs.BusPart.{BusPart}
 use Rattle.chip_words.specs.Channel.{Channel}
 use Rattle.chip_words.specs.Map.{aligned, has_bytes, region_at}
 use Rattle.chip_words.specs.Memory.{loaded, memory_size, stored}
-use Rattle.chip_words.specs.Right.{refusal}
+use Rattle.chip_words.specs.Right.{right_of}
 use Rattle.chip_words.specs.Units.{Units}
 use Rattle.dma_unit.specs.Moves.{fitted_to, transfer}
 use Rattle.dma_laws.specs.Copies.{AreCopied, ChannelsCopyWords, CanCopy, IsOpen, TransfersCopyWords, TransfersMoveAValue, behind_move, behind_moves, copied, moved, with_memory}
@@ -197,7 +197,7 @@ open_again :
 open_again a b kind x y same_units same_place opened = record {
   bytes = ap (λ at. has_bytes (region_at at)) same_place ∙ opened.bytes;
   right =
-      ap (λ units. refusal units Dma kind x) same_units ∙ ap (λ at. refusal b Dma kind at) same_place ∙ opened.right;
+      ap (λ units. right_of units Dma kind x) same_units ∙ ap (λ at. right_of b Dma kind at) same_place ∙ opened.right;
 }
 
 sooner :

@@ -7,7 +7,8 @@ use Rattle.chip_words.specs.BusPart.{BusPart}
 use Rattle.chip_words.specs.Channel.{Channel}
 use Rattle.chip_words.specs.Map.{aligned, has_bytes, region_at}
 use Rattle.chip_words.specs.Memory.{loaded, memory_size, stored}
-use Rattle.chip_words.specs.Right.{refusal}
+use Rattle.chip_words.specs.declared.segments.Right.TheVariants.{Yes}
+use Rattle.chip_words.specs.Right.{right_of}
 use Rattle.chip_words.specs.Script.{run}
 use Rattle.chip_words.specs.Units.{Units}
 use Rattle.dma_unit.specs.declared.transfers.Move.{Move}
@@ -18,7 +19,7 @@ use Rattle.dma_laws.specs.Iterated.{CopiesWordsUpward, behind_transfers, word_mo
 -- an address holds a byte of FRAM or SRAM, and DMA has the right to this access there
 pub record IsOpen (units : Units) (kind : Kind) (at : ℕ) : Type 0 where
   pub bytes : has_bytes (region_at at) ≡ true
-  pub right : refusal units Dma kind at ≡ None
+  pub right : right_of units Dma kind at ≡ Yes
 
 -- the bus part behind a transfer
 abbrev pub behind_move : Move → BusPart → BusPart

@@ -1,10 +1,7 @@
 ghost use Rattle.std.specs.Prelude.{◌≡◌, ◌<◌, ◌≤◌, ◌%◌, IfSome};
 ghost use Rattle.chip_words.specs.Interrupts.{accepted, greatest, standing, vectors};
 
-use chip_words::VECTORS;
-
-/// The vector of the NMI.
-const NMI_VECTOR: u32 = 0xFFFC;
+use chip_words::{NMI_VECTOR, VECTORS};
 
 /// The address of the vector of the interrupt that is accepted: bit i of `lines` is line i, and `nmi` is a
 /// request of the NMI.

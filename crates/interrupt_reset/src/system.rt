@@ -8,8 +8,8 @@ ghost use Rattle.chip_words.specs.Sys.{Sys as SysRegisters, clock_number as cloc
 
 use crate::causes::Causes;
 use chip_words::{
-    CSCTL0, CSCTL6, PM5CTL0, PMMCTL0, POWER_PASSWORD, SFRIE1, SFRIFG1, SOFTWARE_BOR, SOFTWARE_POR,
-    SYSCTL, SYSRSTIV, Size, part, word_with_part,
+    CSCTL0, CSCTL6, Latch, PASSWORD_READS, PM5CTL0, PMMCTL0, POWER_PASSWORD, SFRIE1, SFRIFG1,
+    SOFTWARE_BOR, SOFTWARE_POR, SYSCTL, SYSRSTIV, Size, is_wrong_password, part, word_with_part,
 };
 use std::marker::Model;
 use std::mem;
@@ -24,19 +24,13 @@ const PMMSWBOR: u32 = 2;
 
 const PMMSWPOR: u32 = 3;
 
-/// The upper byte of a word that is written to PMMCTL0.
-const PASSWORD: u16 = 0xA5;
-
-/// What PMMCTL0 reads.
-const PASSWORD_READS: u16 = 0x9600;
-
 /// The registers of the system unit and of the power management, and the causes of resets that are
 /// requested in a tick (SLAU367, SYS and PMM).
 #[derive(Debug, Drop)]
 pub struct Sys {
     sfrie1: u16,
     sfrifg1: u16,
-    is_open: bool,
+    latch: Latch,
     locked: bool,
     csctl: [u16; 7],
     sysctl: u16,
@@ -50,7 +44,7 @@ impl Model for Sys {
     ghost view = { λ s. record {
       sfrie1 = s.sfrie1;
       sfrifg1 = s.sfrifg1;
-      is_open = s.is_open;
+      is_open = s.latch;
       locked = s.locked;
       csctl = s.csctl;
       sysctl = s.sysctl;
@@ -67,7 +61,7 @@ impl Sys {
         Sys {
             sfrie1: 0,
             sfrifg1: 0,
-            is_open: false,
+            latch: Latch::new(),
             locked: true,
             csctl: [0; 7],
             sysctl: 0,
@@ -82,7 +76,7 @@ impl Sys {
     {
         self.sfrie1 = 0;
         self.sfrifg1 = 0;
-        self.is_open = false;
+        self.latch = Latch::new();
         self.locked = self.locked || bor;
         self.csctl = [0; 7];
         self.sysctl = 0;
@@ -159,7 +153,7 @@ impl Sys {
         None
     }
 
-    /// Writes PMMCTL0. Only its lower byte waits for the latch: a word brings the password itself.
+    /// Writes PMMCTL0, which has the password.
     fn write_power(&mut self, at: u32, size: Size, value: u16) -> Option<u8>
         requires width { IsByteOrWord size }
         requires fits { value < span size }
@@ -168,25 +162,13 @@ impl Sys {
         ensures cause { result ≡ sys_cause self.old at size value }
         ensures number { IfSome result (λ cause. cause < 65) }
     {
-        match size {
-            Size::Byte => {
-                if at % 2 == 1 {
-                    self.is_open = value == PASSWORD;
-                    None
-                } else if self.is_open {
-                    software_reset(value)
-                } else {
-                    None
-                }
-            }
-            Size::Word | Size::Addr => {
-                if value >> 8 == PASSWORD {
-                    self.is_open = true;
-                    software_reset(value & 0xFF)
-                } else {
-                    Some(POWER_PASSWORD)
-                }
-            }
+        let byte = self.latch.write(at, size, value);
+        if is_wrong_password(size, value) {
+            return Some(POWER_PASSWORD);
+        }
+        match byte {
+            Some(byte) => software_reset(byte),
+            None => None,
         }
     }
 
@@ -235,7 +217,7 @@ fn clock_number(at: u32) -> usize
 }
 
 /// The cause that the lower byte of PMMCTL0 requests: a BOR where both bits are set.
-fn software_reset(byte: u16) -> Option<u8>
+fn software_reset(byte: u8) -> Option<u8>
     ensures cause { result ≡ software_cause (Some byte) }
     ensures number { IfSome result (λ cause. cause < 65) }
 {

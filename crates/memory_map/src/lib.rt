@@ -25,7 +25,6 @@ pub const MAIN_END: u32 = 0x14000;
 /// The row of the memory map that holds an address.
 #[tactic(auto, unfolding(chip_words::specs::Map::region_at))]
 pub fn region_of(at: u32) -> Region
-    requires { at < 0x100000 }
     ensures region { result ≡ region_at at }
 
     // All memory lies below its end.
@@ -44,7 +43,6 @@ pub fn region_of(at: u32) -> Region
 /// Says whether an address lies in FRAM, which holds its bytes without power.
 #[tactic(auto, unfolding(chip_words::specs::Map::is_fram))]
 pub fn is_fram(at: u32) -> bool
-    requires { at < 0x100000 }
     ensures { result ≡ is_fram_at at }
 {
     matches!(region_of(at), Region::Info | Region::Main)

@@ -1,5 +1,5 @@
 -- The compare registers of a timer from one number on.
-use Rattle.std.proofs.Common.{◌≡◌, ℕ, zero, suc, ◌+◌, ◌-◌, ◌<◌, List, [], ◌∷◌, ◌++◌, length, Some, if◌then◌else◌, drop, take, refl, ap, arith, slice_index_or, slice_set}
+use Rattle.std.proofs.Common.{◌≡◌, ℕ, zero, suc, ◌+◌, ◌<◌, List, [], ◌∷◌, ◌++◌, length, Some, if◌then◌else◌, drop, take, refl, ap, arith, slice_index_or, slice_set}
 use Rattle.std.proofs.lemmas.List.{drop_more}
 use Rattle.chip_words.specs.Timer.{CCIFG, is_compare_waiting, least_waiting, with_bit, with_flags}
 
