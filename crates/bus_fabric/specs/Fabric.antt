@@ -1,15 +1,22 @@
 -- What the fabric means, and words for what its calls do.
-use Rattle.std.specs.Prelude.{◌≡◌, ℕ, ◌+◌, ◌≤◌, List, [], length, None, Option}
+use Rattle.std.specs.Prelude.{◌≡◌, ℕ, ◌+◌, ◌≤◌, ◌==◌, ◌&&◌, not, Bool, false, List, [], length, None, Option}
 use Rattle.chip_words.specs.Access.{Accessed}
 use Rattle.chip_words.specs.BusPart.{BusPart}
 use Rattle.chip_words.specs.Causes.{no_causes}
-use Rattle.chip_words.specs.Units.{Units}
+use Rattle.chip_words.specs.Interrupts.{NMI_VECTOR, units_entered}
+use Rattle.chip_words.specs.Units.{Units, units_at_reset}
 use Rattle.bus_fabric.specs.declared.fabric.Fabric.{Fabric}
 
 abbrev pub units_of : Fabric → Units
-units_of fabric = record { sys = fabric.sys; ports = fabric.ports; timers = fabric.timers; dma = fabric.dma }
+units_of fabric = record {
+  sys = fabric.sys;
+  ports = fabric.ports;
+  timers = fabric.timers;
+  dma = fabric.dma;
+  fram = fabric.fram;
+  mpu = fabric.mpu;
+}
 
--- no unit that notes violations is built
 abbrev pub bus_part_of : Fabric → BusPart
 bus_part_of fabric = record {
   memory = (fabric.memory).items;
@@ -19,7 +26,7 @@ bus_part_of fabric = record {
   nmi = fabric.nmi;
   budget = fabric.budget;
   writes = fabric.writes;
-  noted = 0;
+  noted = fabric.noted;
   accesses = (fabric.accesses).items;
   causes = fabric.causes;
   stop = fabric.stop;
@@ -32,6 +39,17 @@ Changes change old new = bus_part_of new ≡ change (bus_part_of old)
 -- the units change so, and nothing else does
 abbrev pub ChangesUnits : (Units → Units) → Fabric → Fabric → Type 0
 ChangesUnits change old new = bus_part_of new ≡ record (bus_part_of old) { units = change (units_of old) }
+
+-- a reset of the units, with its cause; a request of the NMI is dropped
+abbrev pub part_at_reset : Bool → ℕ → BusPart → BusPart
+part_at_reset is_bor cause part = record part { units = units_at_reset is_bor cause part.units; nmi = false }
+
+-- an interrupt was entered: what asked for it is cleared, a request of the NMI or the flag of its line
+abbrev pub part_entered : ℕ → BusPart → BusPart
+part_entered vector part = record part {
+  units = units_entered vector part.units;
+  nmi = part.nmi && not (vector == NMI_VECTOR);
+}
 
 -- memory changes so, and nothing else does
 abbrev pub ChangesMemory : (List ℕ → List ℕ) → Fabric → Fabric → Type 0

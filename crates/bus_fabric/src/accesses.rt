@@ -2,13 +2,16 @@
 
 ghost use Rattle.std.specs.Prelude.{◌≡◌, ◌<◌};
 ghost use Rattle.memory_map.specs.declared.TheConstants.{MAIN_END};
-ghost use Rattle.chip_words.specs.Access.{access_allowed, access_by_right, access_memory, access_present, access_region, access_register, blank as blank_of, is_beyond_boot as is_beyond_boot_of, is_low_start as is_low_start_of, ones as ones_of, unchanged_answer, with_listed};
+ghost use Rattle.chip_words.specs.Access.{access_allowed, access_by_right, access_memory, access_present, access_region, access_register, blank as blank_of, violated, is_beyond_boot as is_beyond_boot_of, is_low_start as is_low_start_of, ones as ones_of, unchanged_answer, with_listed};
 ghost use Rattle.chip_words.specs.BusPart.{HasRoom};
 ghost use Rattle.chip_words.specs.Map.{aligned as aligned_at, region_at};
+ghost use Rattle.chip_words.specs.Right.{right_of};
 ghost use Rattle.chip_words.specs.Sizes.{IsByteOrWord, span};
 
 use crate::fabric::Fabric;
-use chip_words::{Access, Agent, Bus, Kind, PERIPHERAL_FETCH, Size, load, store, unit_at};
+use chip_words::{
+    Access, Agent, Bus, Kind, PERIPHERAL_FETCH, Right, Segment, Size, is_built, load, store,
+};
 use memory_map::{Region, aligned, is_fram, region_of};
 
 /// What is read where nothing answers.
@@ -67,7 +70,7 @@ fn access_nothing(kind: Kind, read: u32, value: u32) -> u32
 }
 
 impl Fabric {
-    ghost use Rattle.bus_fabric.specs.Fabric.{Accesses, Changes, ListsOne, bus_part_of};
+    ghost use Rattle.bus_fabric.specs.Fabric.{Accesses, Changes, ListsOne, bus_part_of, units_of};
 
     /// An access to a register of the peripherals.
     #[tactic(auto, unfolding(chip_words::specs::Units::periph))]
@@ -77,7 +80,7 @@ impl Fabric {
         ensures small { result < span size }
         ensures access { Accesses (access_register kind at size value) self.old result self.new }
     {
-        self.stop = self.stop || unit_at(at).is_none();
+        self.stop = self.stop || !is_built(at);
         match kind {
             Kind::Write => {
                 if let Some(cause) = self.write_register(at, size, value) {
@@ -124,10 +127,32 @@ impl Fabric {
         }
     }
 
-    /// An access by the place that refuses it, if any does.
+    /// The right of an access: the segments judge the processor and DMA.
+    #[tactic(auto, unfolding(chip_words::specs::Right::right_of))]
+    fn right(&self, who: Agent, kind: Kind, at: u32) -> Right
+        requires place { at < 0x100000 }
+        ensures right { result ≡ right_of (units_of self.now) who kind at }
+    {
+        match who {
+            Agent::Cpu(_) | Agent::Dma => self.mpu.right(kind, at),
+            Agent::Entry | Agent::Debug | Agent::Boot => Right::Yes,
+        }
+    }
+
+    /// Notes a violation at a place, but for the debugger's and the boot's.
+    fn violate(&mut self, who: Agent, place: Segment)
+        ensures notes { Changes (violated who place) self.old self.new }
+    {
+        match who {
+            Agent::Cpu(_) | Agent::Entry | Agent::Dma => self.noted |= 1 << place.flag(),
+            Agent::Debug | Agent::Boot => {}
+        }
+    }
+
+    /// An access by its right.
     fn access_by_right(
         &mut self,
-        place: Option<u8>,
+        right: Right,
         who: Agent,
         kind: Kind,
         at: u32,
@@ -139,9 +164,10 @@ impl Fabric {
         requires width { IsByteOrWord size }
         requires fits { value < span size }
         ensures small { result < span size }
-        ensures access { Accesses (access_by_right place who kind at size value) self.old result self.new }
+        ensures access { Accesses (access_by_right right who kind at size value) self.old result self.new }
     {
-        if place.is_some() {
+        if let Right::No(place) = right {
+            self.violate(who, place);
             return access_nothing(kind, blank(size), value);
         }
         if is_beyond_boot(who, kind, at) {
@@ -151,7 +177,6 @@ impl Fabric {
     }
 
     /// An access by the rule on first words, and then by its right.
-    #[tactic(auto, unfolding(chip_words::specs::Right::refusal))]
     fn access_allowed(&mut self, who: Agent, kind: Kind, at: u32, size: Size, value: u32) -> u32
         requires place { at < 0x100000 }
         requires even { aligned_at size at ≡ at }
@@ -164,7 +189,8 @@ impl Fabric {
             self.request(PERIPHERAL_FETCH);
             return blank(size);
         }
-        self.access_by_right(None, who, kind, at, size, value)
+        let right = self.right(who, kind, at);
+        self.access_by_right(right, who, kind, at, size, value)
     }
 
     /// Adds an access to the step's list, but for the debugger's.

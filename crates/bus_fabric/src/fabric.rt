@@ -1,18 +1,21 @@
-ghost use Rattle.std.specs.Prelude.{◌≡◌, ◌<◌, None, true, not, IfOk, IfSome, IsTrue, length, slice_index, slice_set, vec_len};
+ghost use Rattle.std.specs.Prelude.{◌≡◌, ◌<◌, ◌≤◌, None, true, not, IfOk, IfSome, IsTrue, length, slice_index, slice_set, vec_len};
 ghost use Rattle.memory_map.specs.declared.TheConstants.{MAIN_END};
 ghost use Rattle.chip_words.specs.Access.{is_over, numbered, requested, sys_asked};
 ghost use Rattle.chip_words.specs.Causes.{least_cause};
 ghost use Rattle.chip_words.specs.Map.{has_bytes, region_at};
 ghost use Rattle.chip_words.specs.Memory.{loaded};
-ghost use Rattle.chip_words.specs.Steps.{begun};
+ghost use Rattle.chip_words.specs.Steps.{begun, ended_at, step_ended, violation_ended, waits_in};
 ghost use Rattle.bus_fabric.specs.FirstBus.{first_bus};
 ghost use Rattle.bus_fabric.specs.Memory.{fram_copied, sram_filled};
 
 use crate::memory::{copy_fram, fill_sram, first_memory};
 use arrayvec::ArrayVec;
-use chip_words::{Access, NoMemory, Seal, Size, load};
+use chip_words::{Access, NoMemory, Seal, Segment, Size, load};
 use dma_unit::Dma;
+use fram_ctrl::FramCtrl;
 use interrupt_reset::{Causes, Sys};
+use memory_map::is_fram;
+use mpu_segments::{MpuSegments, Noted};
 use port_unit::Ports;
 use std::alloc::Global;
 use timer_unit::Timers;
@@ -27,6 +30,8 @@ pub struct Fabric {
     pub ports: Ports,
     pub timers: Timers,
     pub dma: Dma,
+    pub fram: FramCtrl,
+    pub mpu: MpuSegments,
     /// An NMI is requested.
     pub nmi: bool,
     pub(crate) memory: Vec<u8>,
@@ -34,6 +39,8 @@ pub struct Fabric {
     fill: u8,
     budget: Option<u32>,
     writes: u32,
+    /// The places of the step's violations, by the bits of their flags.
+    pub(crate) noted: u8,
     pub(crate) accesses: ArrayVec<Access, 64>,
     /// The causes that the accesses of the step have requested.
     causes: Causes,
@@ -60,12 +67,15 @@ impl Fabric {
             ports: Ports::new(),
             timers: Timers::new(),
             dma: Dma::new(),
+            fram: FramCtrl::new(),
+            mpu: MpuSegments::new(),
             nmi: false,
             memory,
             kept: Seal { low: 0, high: 0 },
             fill,
             budget: None,
             writes: 0,
+            noted: 0,
             accesses: ArrayVec::new(),
             causes: Causes::new(),
             stop: false,
@@ -96,6 +106,63 @@ impl Fabric {
     {
         self.accesses.clear();
         self.causes.clear();
+    }
+
+    /// Ends a step: each place that was noted sets its flag, and asks for a reset or for the NMI.
+    #[tactic(auto, unfolding(chip_words::specs::Steps::ended_with))]
+    pub fn end_step(&mut self)
+        ensures step { Changes step_ended self.old self.new }
+    {
+        let noted = self.noted;
+        self.noted = 0;
+        self.end_at(noted, Segment::Sealed);
+        self.end_at(noted, Segment::Info);
+        self.end_at(noted, Segment::One);
+        self.end_at(noted, Segment::Two);
+        self.end_at(noted, Segment::Three);
+    }
+
+    fn end_at(&mut self, noted: u8, place: Segment)
+        ensures place { Changes (ended_at noted place) self.old self.new }
+    {
+        if (noted >> place.flag()) & 1 == 1 {
+            self.end_violation(place);
+        }
+    }
+
+    fn end_violation(&mut self, place: Segment)
+        ensures place { Changes (violation_ended place) self.old self.new }
+    {
+        match self.mpu.note(place, false) {
+            Noted::Nothing => {}
+            Noted::Nmi => self.nmi = true,
+            Noted::Reset(cause) => self.request(cause),
+        }
+    }
+
+    /// The places of the step's violations, by the bits of their flags in MPUCTL1.
+    pub fn noted(&self) -> u8
+        ensures places { result ≡ (bus_part_of self.now).noted }
+    {
+        self.noted
+    }
+
+    /// The cycles that the step's accesses to FRAM add: NWAITS for each.
+    #[tactic(auto, unfolding(chip_words::specs::Steps::waits_in))]
+    pub fn waits(&self) -> u32
+        ensures cycles { result ≡ waits_in (bus_part_of self.now) }
+        ensures most { result ≤ 448 }
+    {
+        let waits = self.fram.waits();
+        if waits == 0 {
+            return 0;
+        }
+        waits
+            * self
+                .accesses
+                .iter()
+                .filter(|access| is_fram(access.at))
+                .count() as u32
     }
 
     /// Takes the number of the next write of the tick, and says whether that write is present.

@@ -3,30 +3,33 @@
 ghost use Rattle.std.specs.Prelude.{◌≡◌, ◌<◌, ◌≤◌, IfSome};
 ghost use Rattle.chip_words.specs.Bits.{part_of};
 ghost use Rattle.chip_words.specs.Causes.{least_cause};
-ghost use Rattle.chip_words.specs.Interrupts.{units_entered, units_lines};
+ghost use Rattle.chip_words.specs.Interrupts.{units_lines};
 ghost use Rattle.chip_words.specs.Sizes.{IsByteOrWord, span};
-ghost use Rattle.chip_words.specs.Units.{units_at_reset, units_cause, units_clocked, units_driven, units_touched, units_written, word_of};
+ghost use Rattle.chip_words.specs.Units.{units_cause, units_clocked, units_driven, units_touched, units_written, word_of};
 ghost use Rattle.port_unit.specs.Pins.{pins_of};
 
 use crate::fabric::Fabric;
 use chip_words::{
-    Size, TA0_CCR0_LINE, TA1_CCR0_LINE, TB0_CCR0_LINE, UnitName, VECTORS, WATCHDOG_INTERVAL,
-    WATCHDOG_LINE, unit_at,
+    NMI_VECTOR, Size, TA0_CCR0_LINE, TA1_CCR0_LINE, TB0_CCR0_LINE, UnitName, VECTORS,
+    WATCHDOG_INTERVAL, WATCHDOG_LINE, unit_at,
 };
 use port_unit::Pins;
 
 impl Fabric {
-    ghost use Rattle.bus_fabric.specs.Fabric.{ChangesUnits, units_of};
+    ghost use Rattle.bus_fabric.specs.Fabric.{Changes, ChangesUnits, part_at_reset, part_entered, units_of};
 
     /// A BOR or a PUC of the peripherals, with its cause.
     pub fn reset(&mut self, bor: bool, cause: u8)
-        ensures units { ChangesUnits (units_at_reset bor cause) self.old self.new }
+        ensures part { Changes (part_at_reset bor cause) self.old self.new }
     {
         self.sys.reset(bor);
         self.sys.taken(cause);
         self.ports.reset(bor);
         self.timers.reset(bor);
         self.dma.reset(bor);
+        self.fram.reset(bor);
+        self.mpu.reset(bor);
+        self.nmi = false;
     }
 
     /// The least cause that is requested.
@@ -44,12 +47,15 @@ impl Fabric {
         self.sys.lines() + self.timers.lines() + self.dma.lines() + self.ports.lines()
     }
 
-    /// An interrupt was entered: the flag of its line is cleared, where the line has a single one.
+    /// An interrupt was entered: a request of the NMI is cleared, or the flag of its line, where the line has a single
+    /// one.
     #[tactic(auto, unfolding(chip_words::specs::Interrupts::units_entered))]
     pub fn entered(&mut self, vector: u32)
-        ensures units { ChangesUnits (units_entered vector) self.old self.new }
+        ensures part { Changes (part_entered vector) self.old self.new }
     {
-        if vector == VECTORS[WATCHDOG_LINE as usize] {
+        if vector == NMI_VECTOR {
+            self.nmi = false;
+        } else if vector == VECTORS[WATCHDOG_LINE as usize] {
             self.sys.entered(WATCHDOG_LINE);
         } else if vector == VECTORS[TB0_CCR0_LINE as usize] {
             self.timers.entered(TB0_CCR0_LINE);
@@ -103,6 +109,8 @@ impl Fabric {
             Some(UnitName::Timers) => self.timers.read(at, size),
             Some(UnitName::Ports) => self.ports.read(at, size, self.sys.locked()),
             Some(UnitName::Dma) => self.dma.read(at, size),
+            Some(UnitName::Fram) => self.fram.read(at, size),
+            Some(UnitName::Mpu) => self.mpu.read(at, size),
             None => 0,
         }
     }
@@ -121,6 +129,8 @@ impl Fabric {
             Some(UnitName::Timers) => self.timers.write(at, size, value),
             Some(UnitName::Ports) => self.ports.write(at, size, value),
             Some(UnitName::Dma) => self.dma.write(at, size, value),
+            Some(UnitName::Fram) => self.fram.write(at, size, value),
+            Some(UnitName::Mpu) => self.mpu.write(at, size, value),
             None => None,
         }
     }

@@ -3,8 +3,8 @@ use Rattle.std.specs.Prelude.{ℕ, ◌+◌, ◌%◌, ◌==◌, ◌&&◌, not, Bo
 use Rattle.chip_words.specs.Bits.{has_bit}
 use Rattle.chip_words.specs.Registers.{OSCOFF, SCG1, SR, no_registers, with_register}
 use Rattle.chip_words.specs.Causes.{POWER_ON, is_of_bor, least_cause}
-use Rattle.chip_words.specs.Units.{units_at_reset, units_clocked, units_driven}
-use Rattle.bus_fabric.specs.Fabric.{tick_ended}
+use Rattle.chip_words.specs.Units.{units_clocked, units_driven}
+use Rattle.bus_fabric.specs.Fabric.{part_at_reset, tick_ended}
 use Rattle.stimulus.specs.declared.events.Event.{Event}
 use Rattle.stimulus.specs.declared.events.EventAct.{EventAct}
 use Rattle.stimulus.specs.declared.events.EventAct.TheVariants.{Pin}
@@ -22,7 +22,7 @@ use Rattle.chip_core.specs.Turns.{Turn, at_reset_vector, owned, owner_of}
 -- a BOR: all registers are 0, the peripherals have their values of reset, and a boot starts
 abbrev pub after_bor : ℕ → State → State
 after_bor cause chip = record chip {
-  bus = record (chip.bus) { units = units_at_reset true cause (chip.bus.units) };
+  bus = part_at_reset true cause chip.bus;
   registers = no_registers;
   busy = 0;
   boot = Some Start;
@@ -74,7 +74,7 @@ timed chip = clocked chip.boot chip
 -- resets, and PC is the reset vector
 abbrev pub after_puc : ℕ → State → State
 after_puc cause chip = at_reset_vector (record chip {
-  bus = record (chip.bus) { units = units_at_reset false cause (chip.bus.units) };
+  bus = part_at_reset false cause chip.bus;
   registers = with_register chip.registers SR 0;
   busy = 0;
   second_tick = false;

@@ -1,19 +1,19 @@
 -- Who owns the bus in a tick, and what the owner makes of its turn: a step of the boot until it is done, a transfer of
 -- DMA, an interrupt or an instruction.
-use Rattle.std.specs.Prelude.{ℕ, ◌-◌, ◌==◌, nat_lt, Bool, true, false, if◌then◌else◌, List, Option, Some, None, slice_index}
+use Rattle.std.specs.Prelude.{ℕ, ◌+◌, ◌-◌, ◌==◌, nat_lt, Bool, true, false, if◌then◌else◌, List, Option, Some, None, slice_index}
 use Rattle.chip_words.specs.declared.sizes.Size.TheVariants.{Word}
 use Rattle.chip_words.specs.declared.accesses.Agent.TheVariants as by
 use Rattle.chip_words.specs.Bits.{has_bit}
 use Rattle.chip_words.specs.Memory.{loaded}
 use Rattle.chip_words.specs.Registers.{CPUOFF, GIE, PC, SR, with_register}
 use Rattle.chip_words.specs.Causes.{RESERVED_WORD, least_cause, lesser_cause}
-use Rattle.chip_words.specs.Interrupts.{accepted, units_entered, units_lines}
+use Rattle.chip_words.specs.Interrupts.{accepted, units_lines}
 use Rattle.chip_words.specs.Dma.{Dma}
 use Rattle.chip_words.specs.BusPart.{BusPart}
 use Rattle.chip_words.specs.Access.{sys_asked}
 use Rattle.chip_words.specs.Script.{Ran, run}
-use Rattle.chip_words.specs.Steps.{begun}
-use Rattle.bus_fabric.specs.Fabric.{RESET_VECTOR}
+use Rattle.chip_words.specs.Steps.{begun, step_ended, waits_in}
+use Rattle.bus_fabric.specs.Fabric.{RESET_VECTOR, part_entered}
 use Rattle.chip_core.specs.declared.boots.Place.{Place}
 use Rattle.chip_core.specs.declared.owners.Owner.{Owner}
 use Rattle.chip_core.specs.declared.owners.Owner.TheVariants.{Boot, SecondTick, Transfer, Processor}
@@ -80,25 +80,29 @@ abbrev pub reserved_cause : Outcome → Option ℕ
 reserved_cause (Cycles cycles) = None
 reserved_cause Reserved = Some RESERVED_WORD
 
--- the processor is busy with an instruction for its cycles, of which the first is the tick that made it
-abbrev pub busy_after : Outcome → ℕ
-busy_after (Cycles cycles) = cycles - 1
-busy_after Reserved = 0
+-- the processor is busy with an instruction for its cycles and its waits for FRAM, of which the first is the tick that
+-- made it
+abbrev pub busy_after : Outcome → ℕ → ℕ
+busy_after (Cycles cycles) waits = cycles - 1 + waits
+busy_after Reserved waits = 0
 
 -- a reset is asked for behind the accesses, if there is a cause
 abbrev pub asked : Option ℕ → BusPart → BusPart
 asked cause part = record part { units = sys_asked cause part.units }
 
+-- the chip behind the accesses of an instruction, by how it ended
+abbrev pub instruction_ended : Outcome → State → State
+instruction_ended outcome chip = record chip {
+  bus = step_ended (asked (reserved_cause outcome) chip.bus);
+  busy = busy_after outcome (waits_in chip.bus);
+}
+
 abbrev pub instructed_from : Ran Stepped → State → Turn
 instructed_from ran chip = record {
-  chip = record chip {
-    bus = asked (reserved_cause (ran.value).outcome) ran.part;
-    registers = (ran.value).registers;
-    busy = busy_after (ran.value).outcome;
-  };
+  chip = instruction_ended (ran.value).outcome (record chip { bus = ran.part; registers = (ran.value).registers });
   vector = None;
   noted = (ran.part).noted;
-  cause = lesser_cause (least_cause (ran.part).causes) (reserved_cause (ran.value).outcome);
+  cause = lesser_cause (least_cause (step_ended ran.part).causes) (reserved_cause (ran.value).outcome);
 }
 
 -- the instruction at PC
@@ -113,25 +117,25 @@ is_off chip = has_bit (slice_index chip.registers SR) CPUOFF
 abbrev pub takes_interrupts : State → Bool
 takes_interrupts chip = has_bit (slice_index chip.registers SR) GIE
 
--- the vector of the interrupt that is accepted; nothing that is built requests an NMI
+-- the vector of the interrupt that is accepted
 abbrev pub accepted_by : State → Option ℕ
-accepted_by chip = accepted (units_lines (chip.bus.units)) (takes_interrupts chip) false
+accepted_by chip = accepted (units_lines (chip.bus.units)) (takes_interrupts chip) chip.bus.nmi
 
 -- an entry takes so many cycles
 abbrev pub entry_cycles : ℕ
 entry_cycles = 6
 
--- behind its accesses an entry clears the flag of its line
+-- behind its accesses an entry clears what asked for it, before the end of the step may ask again
 abbrev pub entered_from : ℕ → Ran (List ℕ) → State → Turn
 entered_from vector ran chip = record {
   chip = record chip {
-    bus = record (ran.part) { units = units_entered vector (ran.part.units) };
+    bus = step_ended (part_entered vector ran.part);
     registers = ran.value;
-    busy = entry_cycles - 1;
+    busy = entry_cycles - 1 + waits_in ran.part;
   };
   vector = Some vector;
   noted = (ran.part).noted;
-  cause = least_cause (ran.part).causes;
+  cause = least_cause (step_ended ran.part).causes;
 }
 
 unfoldable pub entered : ℕ → State → Turn
@@ -157,10 +161,10 @@ with_dma change chip = record chip {
 
 abbrev pub moved_from : Ran ℕ → State → Turn
 moved_from ran chip = record {
-  chip = record chip { bus = ran.part; second_tick = true };
+  chip = record chip { bus = step_ended ran.part; second_tick = true };
   vector = None;
   noted = (ran.part).noted;
-  cause = least_cause (ran.part).causes;
+  cause = least_cause (step_ended ran.part).causes;
 }
 
 -- the first tick of a transfer has both of its accesses

@@ -38,7 +38,8 @@ const SCG1: u32 = 7;
 pub struct Chip {
     pub(crate) fabric: Fabric,
     pub(crate) regs: Regs,
-    pub(crate) busy: u32,
+    /// How many more ticks the processor is busy.
+    pub(crate) busy: u64,
     pub(crate) powered: bool,
     pub(crate) boot: Option<Place>,
     pub(crate) dead: bool,

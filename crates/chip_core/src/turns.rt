@@ -2,7 +2,7 @@
 
 ghost use Rattle.std.specs.Prelude.{◌≡◌, ◌<◌};
 ghost use Rattle.chip_core.specs.Owners.{IsChannel};
-ghost use Rattle.chip_core.specs.Turns.{accepted_by, at_reset_vector, boot_turn, entered, free_turn, instructed, is_off as is_off_state, owned, owner_of, processor_turn, rested_by, transfer_turn, takes_interrupts as takes_interrupts_state};
+ghost use Rattle.chip_core.specs.Turns.{accepted_by, at_reset_vector, boot_turn, entered, free_turn, instructed, instruction_ended, is_off as is_off_state, owned, owner_of, processor_turn, rested_by, transfer_turn, takes_interrupts as takes_interrupts_state};
 
 use crate::boots::{self, BootStep, Place};
 use crate::chips::Chip;
@@ -16,7 +16,7 @@ use interrupt_reset::best;
 const NO_VECTOR: u32 = 0xFFFF;
 
 /// The ticks of an entry behind its first.
-const BUSY_ENTRY: u32 = 5;
+const BUSY_ENTRY: u64 = 5;
 
 // Bits of SR.
 
@@ -77,6 +77,7 @@ impl Chip {
         let step = self.fabric.dma.transfer(channel);
         self.fabric.begin_step();
         dma_unit::make(step, &mut self.fabric);
+        self.fabric.end_step();
         self.second_tick = true;
     }
 
@@ -126,7 +127,11 @@ impl Chip {
     fn turn_freely(&mut self)
         ensures chip { self.new ≡ (free_turn (accepted_by self.old) self.old).chip }
     {
-        match best(self.fabric.lines(), self.takes_interrupts(), false) {
+        match best(
+            self.fabric.lines(),
+            self.takes_interrupts(),
+            self.fabric.nmi,
+        ) {
             Some(vector) => self.enter(vector),
             None => {
                 if !self.is_off() {
@@ -154,13 +159,25 @@ impl Chip {
         ensures chip { self.new ≡ (instructed self.old).chip }
     {
         self.fabric.begin_step();
-        match step(&mut self.regs, &mut self.fabric) {
-            Outcome::Cycles(cycles) => self.busy = cycles.saturating_sub(1),
+        let outcome = step(&mut self.regs, &mut self.fabric);
+        self.end_instruction(outcome);
+    }
+
+    /// Ends the step of an instruction, by how it ended.
+    fn end_instruction(&mut self, outcome: Outcome)
+        ensures chip { self.new ≡ instruction_ended outcome self.old }
+    {
+        match outcome {
+            Outcome::Cycles(cycles) => {
+                let waits = self.fabric.waits();
+                self.busy = u64::from(cycles.saturating_sub(1)) + u64::from(waits);
+            }
             Outcome::Reserved => {
                 self.fabric.ask(RESERVED_WORD);
                 self.busy = 0;
             }
         }
+        self.fabric.end_step();
     }
 
     /// Enters the interrupt of a vector.
@@ -171,7 +188,8 @@ impl Chip {
     {
         self.fabric.begin_step();
         entries::enter(&mut self.regs, &mut self.fabric, vector);
+        self.busy = BUSY_ENTRY + u64::from(self.fabric.waits());
         self.fabric.entered(vector);
-        self.busy = BUSY_ENTRY;
+        self.fabric.end_step();
     }
 }

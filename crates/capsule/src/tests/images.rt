@@ -23,11 +23,11 @@ fn writes_the_trace_of_an_image(rt: HostRuntime) -> Result<(), Fail> {
     )?;
     run_of(overlaid.as_slice()).gives(&rt, Status::Done, BLINK_TRACE)?;
 
-    // FRCTL0 isn't built.
+    // MPUIPC0 isn't built.
     let unbuilt = image(
         alloc,
         &[
-            (0x4400, &[0xC392, 0x0130, 0x4215, 0x0140]),
+            (0x4400, &[0xC392, 0x0130, 0x4215, 0x05AA]),
             (0xFFFE, &VECTOR),
         ],
     )?;

@@ -4,6 +4,7 @@ mod dma;
 mod images;
 mod interrupts;
 mod programs;
+mod protection;
 mod refusals;
 mod resets;
 mod timers;
