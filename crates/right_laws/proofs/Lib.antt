@@ -1,0 +1,6 @@
+pub mod Judging
+pub mod Dividing
+pub mod Locking
+pub mod Refusing
+pub mod Ending
+pub mod Accessing
