@@ -1,24 +1,54 @@
-"""The processor's bus: what one fetch, read or write does (MACHINE.md, The order of an access).
+"""The bus: what one fetch, read or write does (MACHINE.md, The order of an access).
 
 Two sizes of data: "b" is a byte and "w" a word.
 """
 
 from collections.abc import Callable
+from enum import Enum
 
-from memory import ADDRESS_MASK, VACANT_WORD, Memory, Region, region_of
+from memory import (
+    ADDRESS_MASK, BYTE_OF_NO_STORE, FRAM_REGIONS, VACANT_WORD, Memory, Region, region_of,
+)
+from protection import Protection, Right
 from registers_of_units import HIGH_HALF, LOW_HALF, WORD
 from system import Cause
 
+ENCAPSULATION_REGISTERS = range(0x05AA, 0x05B0)
+
+
+class Agent(Enum):
+    """Who makes the accesses of a step. The boot makes its own past the bus."""
+
+    PROCESSOR = "processor"
+    ENTRY = "entry"
+    DMA = "dma"
+
+
+JUDGED_AGENTS = (Agent.PROCESSOR, Agent.DMA)
+
 
 class Bus:
-    def __init__(self, memory: Memory, units, request: Callable[[Cause], None]):
+    """Without protection every address that no unit has is a STOP."""
+
+    def __init__(
+        self, memory: Memory, units, request: Callable[[Cause], None], protection: Protection,
+        with_protection: bool,
+    ):
         self.memory = memory
         self.request = request
+        self.protection = protection
+        self.with_protection = with_protection
+        self.agent = Agent.PROCESSOR
+        self.accesses_to_fram = 0  # of this step
         self.stopped = False  # a register was asked for that isn't built
         self.unit_of_address = {}
         for unit in units:
             for address in unit.addresses:
                 self.unit_of_address[address] = unit
+
+    def begin_step(self, agent: Agent) -> None:
+        self.agent = agent
+        self.accesses_to_fram = 0
 
     def fetch(self, instruction_address: int, at: int) -> int:
         at &= ADDRESS_MASK & ~1
@@ -26,14 +56,16 @@ class Bus:
         if is_first_word and region_of(at) is Region.PERIPHERALS:
             self.request(Cause.PERIPHERAL_FETCH)
             return VACANT_WORD
-        return self.read(at, "w")
+        return self.read(at, "w", Right.FETCH)
 
-    def read(self, at: int, size: str) -> int:
+    def read(self, at: int, size: str, right: Right = Right.READ) -> int:
         at &= ADDRESS_MASK
         if size == "w":
             at &= ~1
         if region_of(at) is Region.PERIPHERALS:
             return self.read_register(at, size)
+        if self.is_refused(at, right):
+            return VACANT_WORD if size == "w" else BYTE_OF_NO_STORE
         return self.memory.read_word(at) if size == "w" else self.memory.read_byte(at)
 
     def write(self, at: int, size: str, value: int) -> None:
@@ -42,16 +74,30 @@ class Bus:
             at &= ~1
         if region_of(at) is Region.PERIPHERALS:
             self.write_register(at, size, value)
+        elif self.is_refused(at, Right.WRITE):
+            return
         elif size == "w":
             self.memory.write_word(at, value)
         else:
             self.memory.write_byte(at, value)
 
+    def is_refused(self, at: int, right: Right) -> bool:
+        """Counts an access where it is one to FRAM, and judges its right."""
+        if region_of(at) not in FRAM_REGIONS:
+            return False
+        self.accesses_to_fram += 1
+        if self.agent not in JUDGED_AGENTS:
+            return False
+        return self.protection.refuses(at, right, self.agent.value)
+
     def unit_at(self, address: int):
         unit = self.unit_of_address.get(address)
-        if unit is None:
+        if unit is None and self.is_unbuilt(address):
             self.stopped = True
         return unit
+
+    def is_unbuilt(self, address: int) -> bool:
+        return not self.with_protection or address in ENCAPSULATION_REGISTERS
 
     def read_register(self, at: int, size: str) -> int:
         address = at & ~1

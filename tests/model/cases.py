@@ -6,6 +6,8 @@ from dataclasses import dataclass, field
 import actions
 import dma_actions
 import dma_situations
+import protection_actions
+import protection_situations
 import timer_actions
 import timer_situations
 from bench import PINS, Bench, Event, bench_text
@@ -16,6 +18,8 @@ from programs import (
 
 LONG_END = 40_000
 LONG_END_WITHOUT_TIMERS = 32_768
+LONG_RUN = 9000
+TIMES_FOR_PROTECTION = 3  # what is protected has to be set up first, and waits take their time
 SHARE_OF_REFUSED = 0.05
 SHARE_OF_DEAD_ENDS = 0.01
 
@@ -75,14 +79,52 @@ DMA_WITH_INTERRUPTS = Style(
     ),
     interrupts=1.0, longest_chapter=14,
 )
+PROTECTED = ((protection_situations.act_in_a_situation, 12),
+             (protection_actions.act_on_protection, 4))
+WAITING = Style(
+    weights=((protection_actions.set_waits, 4), (random_instructions, 5),
+             (actions.act_on_ports, 0.5), (actions.wait, 0.5), (dma_actions.act_on_dma, 1),
+             (protection_actions.touch_nowhere, 0.5), (actions.act_on_status, 1),
+             (protection_situations.set_waits_with_an_access, 1),
+             (timer_actions.set_up, 1), (protection_actions.write_plain_fram_registers, 0.5)),
+    interrupts=0.5, longest_chapter=25,
+)
+PROTECTION = Style(
+    weights=(*PROTECTED, (actions.act_on_ports, 0.3), (actions.wait, 0.5),
+             (actions.act_on_status, 0.3), (random_instructions, 0.6)),
+    interrupts=0.15, longest_chapter=14, loops=0.1, rescued=0.6,
+)
+PROTECTION_WITH_INTERRUPTS = Style(
+    weights=(
+        *PROTECTED, (actions.act_on_status, 3), (timer_actions.set_up, 1.2),
+        (actions.enable_port_interrupts, 0.6), (actions.set_watchdog, 0.6), (actions.wait, 0.5),
+        (stack_on_flags, 0.3), (stack_on_timers, 0.2),
+    ),
+    interrupts=1.0, longest_chapter=14, loops=0.1, rescued=0.5,
+)
+PROTECTION_WITH_DMA = Style(
+    weights=(
+        *PROTECTED, (protection_situations.transfer, 5), (protection_situations.sleep, 3),
+        (dma_actions.act_on_dma, 2), (dma_situations.act_in_a_situation_of_interrupts, 2),
+        (actions.act_on_status, 1.5), (timer_actions.set_up, 0.5),
+    ),
+    interrupts=0.6, longest_chapter=14, loops=0.1, rescued=0.6,
+)
 
 STYLES = {"instructions": INSTRUCTIONS, "system": SYSTEM, "interrupts": INTERRUPTS, "loops": LOOPS}
 STYLES_WITH_TIMERS = {
     "timers": TIMERS, "timers and interrupts": TIMERS_WITH_INTERRUPTS,
     "dma": DMA, "dma and interrupts": DMA_WITH_INTERRUPTS,
 }
+STYLES_WITH_PROTECTION = {
+    "waits": WAITING, "protection": PROTECTION,
+    "protection and interrupts": PROTECTION_WITH_INTERRUPTS,
+    "protection and dma": PROTECTION_WITH_DMA,
+}
 WEIGHT_OF_STYLE = {"instructions": 4, "system": 3, "interrupts": 3, "loops": 1, "timers": 5,
-                   "timers and interrupts": 5, "dma": 15, "dma and interrupts": 11}
+                   "timers and interrupts": 5, "dma": 15, "dma and interrupts": 11,
+                   "waits": 7, "protection": 22, "protection and interrupts": 17,
+                   "protection and dma": 15}
 
 
 @dataclass
@@ -104,18 +146,22 @@ class Case:
         return None if self.bench is None else bench_text(self.bench).encode()
 
 
-def random_case(seed: int, index: int, timers: bool) -> Case:
-    """The case of this index. It depends on nothing but the three numbers."""
-    rng = random.Random(f"{seed}/{index}/{timers}")
+def random_case(seed: int, index: int, timers: bool, protection: bool) -> Case:
+    """The case of this index. It depends on nothing but the four values."""
+    name = f"{seed}/{index}/{timers}"
+    rng = random.Random(f"{name}/protection" if protection else name)
     styles = STYLES | (STYLES_WITH_TIMERS if timers else {})
+    styles |= STYLES_WITH_PROTECTION if protection else {}
     kinds = list(styles)
     kind, = rng.choices(kinds, [WEIGHT_OF_STYLE[kind] for kind in kinds])
-    segments = random_program(rng, styles[kind], timers)
+    segments = random_program(rng, styles[kind], timers, protection)
     if rng.random() < SHARE_OF_DEAD_ENDS:
         return dead_end(rng, segments, timers)
     if rng.random() < 0.1:
         overlap(rng, segments)
     case = Case(kind, segments, random_bench(rng, timers))
+    if kind in STYLES_WITH_PROTECTION and case.bench is not None and case.bench.end < LONG_RUN:
+        case.bench.end *= TIMES_FOR_PROTECTION
     if rng.random() < SHARE_OF_REFUSED:
         spoil_files(rng, case, timers)
     return case

@@ -6,13 +6,15 @@ from enum import IntEnum
 import interrupts
 import trace
 from bench import Event
-from bus import Bus
+from bus import Agent, Bus
 from clocks import edges_of
 from dma import Dma
 from execute import Done, step
+from fram import Fram
 from interrupts import CPUOFF_BIT, PC, SR
 from memory import Memory
 from ports import Ports
+from protection import Protection
 from registers import Registers
 from system import CAUSES_OF_BOR, Cause, System
 from timers import built_timers
@@ -34,7 +36,10 @@ class BootStep(IntEnum):
 
 
 class Chip:
-    def __init__(self, store: bytearray, fill: int, statistics: Counter, with_timers: bool):
+    def __init__(
+        self, store: bytearray, fill: int, statistics: Counter, with_timers: bool,
+        with_protection: bool,
+    ):
         self.statistics = statistics
         self.number = 0
         self.stopped = False
@@ -54,7 +59,14 @@ class Chip:
         if with_timers:
             self.timers = built_timers(statistics, self.dma.trigger_of_timer)
             units += [*self.timers, self.dma]
-        self.bus = Bus(self.memory, units, self.requests.add)
+        self.fram = Fram(self.requests.add)
+        self.protection = Protection(self.requests.add, statistics)
+        if with_protection:
+            units += [self.fram, self.protection]  # SYSSNIV is no register of `system` then
+        self.bus = Bus(
+            self.memory, units, self.requests.add, self.protection, with_protection
+        )
+        self.nmi = interrupts.nmi_of(self.protection)
         self.interrupt_lines = interrupts.lines_of(
             self.system, self.ports, self.timers, self.dma
         )
@@ -68,6 +80,7 @@ class Chip:
         self.stimulus(events)
         self.take_edges()
         self.owner_acts()
+        self.protection.end_step()
         if self.bus.stopped or self.stopped:
             self.stopped = True
             return []
@@ -129,20 +142,43 @@ class Chip:
         if self.dead:
             return
         status = self.registers.get(SR)
-        line = interrupts.accepted(self.interrupt_lines, status)
+        line = interrupts.accepted(self.nmi, self.interrupt_lines, status)
         if line is not None:
-            self.statistics[f"entry {line.vector:04X}"] += 1
-            self.busy = interrupts.enter(line, self.registers, self.bus) - 1
+            self.enter(line, status)
         elif status & CPUOFF_BIT:
             self.statistics["ticks asleep"] += 1
         else:
             self.execute()
 
+    def enter(self, line: interrupts.Line, status: int) -> None:
+        self.statistics[f"entry {line.vector:04X}"] += 1
+        if line is self.nmi:
+            self.tell_nmi(status)
+        self.bus.begin_step(Agent.ENTRY)
+        self.busy = interrupts.enter(line, self.registers, self.bus) - 1
+        self.busy += self.waits_of_step()
+
+    def tell_nmi(self, status: int) -> None:
+        if status & CPUOFF_BIT:
+            self.statistics["nmi while asleep"] += 1
+        enabled = "enabled" if status & interrupts.GIE_BIT else "disabled"
+        self.statistics[f"nmi while interrupts are {enabled}"] += 1
+
+    def waits_of_step(self) -> int:
+        """NWAITS as the step left it holds for each of its accesses to FRAM."""
+        each = self.fram.waits()
+        waits = each * self.bus.accesses_to_fram
+        if waits:
+            self.statistics[f"waits with NWAITS {each}"] += waits
+        return waits
+
     def execute(self) -> None:
+        self.bus.begin_step(Agent.PROCESSOR)
         outcome = step(self.registers, self.bus)
         self.statistics[f"form {outcome.form}"] += 1
         if isinstance(outcome, Done):
             self.busy = outcome.cycles - 1
+            self.busy += self.waits_of_step()
         else:
             self.requests.add(Cause.RESERVED_WORD)
 
@@ -180,6 +216,8 @@ class Chip:
         for timer in self.timers:
             timer.reset()
         self.dma.reset()
+        self.fram.reset()
+        self.protection.reset(cause)
 
     # The end of a tick
 

@@ -21,10 +21,12 @@ class Tried:
     differs: bool
 
 
-def answer_of_model(case: Case, timers: bool, statistics: Counter | None = None) -> Answer:
+def answer_of_model(
+    case: Case, timers: bool, protection: bool, statistics: Counter | None = None
+) -> Answer:
     if statistics is None:
         statistics = Counter()
-    return run(case.image_file(), case.bench_file(), statistics, timers)
+    return run(case.image_file(), case.bench_file(), statistics, timers, protection)
 
 
 def write_files(case: Case, folder: Path, name: str) -> list[Path]:
@@ -52,10 +54,12 @@ def answer_of_program(program: Path, case: Case, folder: Path) -> Answer:
     return Answer(output, error, finished.returncode)
 
 
-def try_case(program: Path, seed: int, index: int, timers: bool, folder: Path) -> Tried:
-    case = random_case(seed, index, timers)
+def try_case(
+    program: Path, seed: int, index: int, timers: bool, protection: bool, folder: Path
+) -> Tried:
+    case = random_case(seed, index, timers, protection)
     statistics = Counter()
-    expected = answer_of_model(case, timers, statistics)
+    expected = answer_of_model(case, timers, protection, statistics)
     statistics[f"exit {expected.status}"] += 1
     differs = answer_of_program(program, case, folder) != expected
     return Tried(index, case.kind, statistics, differs)

@@ -3,6 +3,7 @@
 from collections import Counter
 from enum import IntEnum
 
+from bus import Agent
 from memory import ADDRESS_MASK
 from registers_of_units import LOW_HALF, WORD, merged
 
@@ -141,6 +142,7 @@ class Channel:
         return self.mode() not in BURST_MODES or self.rest == 0
 
     def transfer(self, bus) -> None:
+        bus.begin_step(Agent.DMA)
         source, destination = self.source, self.destination
         source_width = self.width(SOURCE_BYTE_BIT)
         destination_width = self.width(DESTINATION_BYTE_BIT)

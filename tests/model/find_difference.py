@@ -13,19 +13,21 @@ from pathlib import Path
 from run import Answer, run
 
 
-def difference(image: bytes, bench: bytes | None, known: tuple, timers: bool) -> str:
+def difference(
+    image: bytes, bench: bytes | None, known: tuple, timers: bool, protection: bool
+) -> str:
     """How the answer differs, as a word, or nothing."""
     try:
-        answer = run(image, bench, Counter(), timers)
+        answer = run(image, bench, Counter(), timers, protection)
     except Exception as error:  # a model with a mistake may do anything
         return type(error).__name__
     return "" if answer == Answer(*known) else "differs"
 
 
 def main() -> None:
-    timers, cases = pickle.loads(Path(sys.argv[1]).read_bytes())
+    timers, protection, cases = pickle.loads(Path(sys.argv[1]).read_bytes())
     for index, (image, bench, known) in enumerate(cases):
-        how = difference(image, bench, known, timers)
+        how = difference(image, bench, known, timers, protection)
         if how:
             print(index, how)
             return

@@ -6,6 +6,7 @@ from dataclasses import dataclass
 from dma import Dma
 from memory import ADDRESS_MASK
 from ports import Ports
+from protection import Protection
 from system import System
 from timers import Timer
 
@@ -19,6 +20,7 @@ SCG0_BIT = 0x0040
 
 ENTRY_CYCLES = 6
 
+NMI_VECTOR = 0xFFFC
 WATCHDOG_VECTOR = 0xFFF2
 DMA_VECTOR = 0xFFE4
 PORT_VECTORS = {1: 0xFFDE, 2: 0xFFD8, 3: 0xFFD2, 4: 0xFFD0}
@@ -51,7 +53,13 @@ def lines_of(
     return tuple(sorted(lines, key=lambda line: line.vector, reverse=True))
 
 
-def accepted(lines: tuple[Line, ...], status: int) -> Line | None:
+def nmi_of(protection: Protection) -> Line:
+    return Line(NMI_VECTOR, protection.nmi_stands, protection.drop_nmi)
+
+
+def accepted(nmi: Line, lines: tuple[Line, ...], status: int) -> Line | None:
+    if nmi.stands():
+        return nmi
     if status & GIE_BIT == 0:
         return None
     for line in lines:

@@ -1,6 +1,7 @@
 """Where the parts of a case's program lie: code in slots of FRAM, and single words as vectors."""
 
 import random
+from dataclasses import dataclass
 
 import assembler
 from image import Segment
@@ -12,13 +13,23 @@ INFORMATION = 0x1800
 INFORMATION_SIZE = 0x200
 
 
+@dataclass
+class Places:
+    """Where other parts of the program lie, for what is to be protected."""
+
+    start: int = 0x4400
+    nmi: int = 0x4400
+    bridge: int = 0x8000  # a border that an instruction lies over
+
+
 class Code:
     """Words that lie one behind another."""
 
-    def __init__(self, address: int, room: int, favourite_timer: int):
+    def __init__(self, address: int, room: int, favourite_timer: int, places: Places):
         self.address = address
         self.room = room
         self.favourite_timer = favourite_timer
+        self.places = places
         self.words: list[int] = []
 
     @property
@@ -52,6 +63,14 @@ class Program:
         self.high_slots = rng.sample(HIGH_SLOTS, len(HIGH_SLOTS))
         self.information_is_free = True
         self.favourite_timer = rng.choice((0x0340, 0x0380, 0x03C0, 0x03C0))
+        self.places = Places()
+
+    def reserve_bridge(self, rng: random.Random) -> None:
+        """Two slots that no code gets. The border between them is the bridge."""
+        bridge = rng.choice(LOW_SLOTS[1:])
+        for slot in (bridge - SLOT_SIZE, bridge):
+            self.low_slots.remove(slot)
+        self.places.bridge = bridge
 
     def low_code(self) -> Code:
         """Code below 10000h, where a vector can point."""
@@ -68,7 +87,7 @@ class Program:
         return self.high_code() if chance < 0.35 else self.low_code()
 
     def code(self, address: int, room: int) -> Code:
-        code = Code(address, room, self.favourite_timer)
+        code = Code(address, room, self.favourite_timer, self.places)
         self.codes.append(code)
         return code
 

@@ -15,6 +15,7 @@ from pathlib import Path
 
 import mistakes_of_dma
 import mistakes_of_instructions
+import mistakes_of_protection
 import mistakes_of_timers
 import mistakes_of_units
 from cases import random_case
@@ -31,22 +32,24 @@ class Found:
     case: str  # what find_difference.py printed: an index and how it differs, or "none"
 
 
-def all_mistakes(timers: bool) -> list[Mistake]:
+def all_mistakes(timers: bool, protection: bool) -> list[Mistake]:
     mistakes = [*mistakes_of_instructions.MISTAKES, *mistakes_of_units.MISTAKES]
     if timers:
         mistakes += [*mistakes_of_timers.MISTAKES, *mistakes_of_dma.MISTAKES]
+    if protection:
+        mistakes += mistakes_of_protection.MISTAKES
     return mistakes
 
 
-def write_cases(path: Path, count: int, seed: int, timers: bool) -> None:
+def write_cases(path: Path, count: int, seed: int, timers: bool, protection: bool) -> None:
     """The files of each case, and the answer of the model without a mistake."""
     cases = []
     for index in range(count):
-        case = random_case(seed, index, timers)
-        answer = answer_of_model(case, timers)
+        case = random_case(seed, index, timers, protection)
+        answer = answer_of_model(case, timers, protection)
         known = (answer.output, answer.error, answer.status)
         cases.append((case.image_file(), case.bench_file(), known))
-    path.write_bytes(pickle.dumps((timers, cases)))
+    path.write_bytes(pickle.dumps((timers, protection, cases)))
 
 
 def find(mistake: Mistake, cases: Path) -> Found:
@@ -59,12 +62,14 @@ def find(mistake: Mistake, cases: Path) -> Found:
     return Found(mistake, finished.stdout.strip())
 
 
-def try_all(count: int, seed: int, timers: bool, jobs: int, only: str) -> int:
+def try_all(
+    count: int, seed: int, timers: bool, protection: bool, jobs: int, only: str
+) -> int:
     """Prints a line for each mistake, and answers 1 where one wasn't found that can be."""
-    mistakes = [mistake for mistake in all_mistakes(timers) if only in mistake.name]
+    mistakes = [mistake for mistake in all_mistakes(timers, protection) if only in mistake.name]
     with tempfile.TemporaryDirectory() as folder:
         cases = Path(folder) / "cases"
-        write_cases(cases, count, seed, timers)
+        write_cases(cases, count, seed, timers, protection)
         with ThreadPoolExecutor(jobs) as pool:
             results = list(pool.map(lambda mistake: find(mistake, cases), mistakes))
     for result in results:

@@ -282,9 +282,9 @@ TICKS = (
     Mistake("the reset vector may be odd", "chip.py",
             "self.registers.set(PC, vector & 0xFFFE)", "self.registers.values[PC] = vector"),
     Mistake("CPUOFF comes before interrupts", "chip.py",
-            "line = interrupts.accepted(self.interrupt_lines, status)",
+            "line = interrupts.accepted(self.nmi, self.interrupt_lines, status)",
             "line = None if status & CPUOFF_BIT else "
-            "interrupts.accepted(self.interrupt_lines, status)"),
+            "interrupts.accepted(self.nmi, self.interrupt_lines, status)"),
     Mistake("CPUOFF is ignored", "chip.py", "elif status & CPUOFF_BIT:", "elif False:"),
     Mistake("an instruction takes a tick more", "chip.py",
             "self.busy = outcome.cycles - 1", "self.busy = outcome.cycles"),

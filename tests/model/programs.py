@@ -11,6 +11,7 @@ from dataclasses import dataclass
 import actions
 import assembler
 import dma_actions
+import protection_routines
 import timer_actions
 from assembler import Operand, absolute, immediate, indexed, register, two
 from image import Segment
@@ -31,7 +32,10 @@ UNUSUAL_STACKS = (0x0104, 0x0106, 0x0122, 0x0164, 0x0220, 0x0240, 0x0224, 0x0000
                   0x1C02, 0x2401, 0x4404, 0x14002, 0x1A10, 0x10002, 0xFFE0, 0xFFE2, 0xFFDC, 0xFFF4,
                   0xFFF6, 0xFFDA, 0xFFD4, 0xFFEC, 0xFFEE)
 STACKS_ON_TIMERS = (0x0344, 0x0346, 0x0386, 0x03C6, 0x0354, 0x03C4, 0x03D6, 0x0370, 0x03F0)
+STACKS_ON_PROTECTION = (0x0142, 0x0144, 0x0148, 0x01A0, 0x05A2, 0x05A6, 0x05A8, 0x05AA)
 STACKS_ON_DMA = (0x0512, 0x0514, 0x0510, 0x0524, 0x0534, 0x051E, 0x0540)
+
+WATCHDOG_THAT_RESETS = (0x5A0E, 0x5A0E, 0x5A2F)  # after 512 ticks, or 64 edges of ACLK
 
 Action = Callable[[random.Random, Code], None]
 
@@ -46,19 +50,38 @@ class Style:
     chapters: int = 8
     longest_chapter: int = 25
     loops: float = 0.35  # the share of chapters that begin again at their end
+    rescued: float = 0.0  # the share of programs that the watchdog resets again and again
 
 
-def random_program(rng: random.Random, style: Style, with_timers: bool) -> list[Segment]:
+def random_program(
+    rng: random.Random, style: Style, with_timers: bool, with_protection: bool
+) -> list[Segment]:
     program = Program(rng)
+    if with_protection:
+        program.reserve_bridge(rng)
     start = program.low_code()
+    if with_protection:
+        program.places.start = start.address
+        write_protection(rng, program, start)
     chapters = [program.code_anywhere(rng) for _ in range(rng.choice((1, 2, 4, style.chapters)))]
     program.single_words[RESET_VECTOR] = start.address | (rng.random() < 0.1)
-    write_start(rng, program, start, chapters, style, with_timers)
+    write_start(rng, program, start, chapters, style, with_timers, with_protection)
     for chapter in chapters:
         write_chapter(rng, chapter, start, style)
     write_routines(rng, program, start, style, with_timers)
     spoil(rng, program)
     return program.segments()
+
+
+def write_protection(rng: random.Random, program: Program, start: Code) -> None:
+    """The NMI's routine, the bridge, and the beginning of the start."""
+    nmi = program.low_code()
+    program.places.nmi = nmi.address
+    if rng.random() < 0.97:
+        program.single_words[protection_routines.NMI_VECTOR] = nmi.address | (rng.random() < 0.1)
+    protection_routines.write_bridge(rng, program)
+    protection_routines.write_nmi_routine(rng, nmi)
+    protection_routines.write_beginning(rng, start)
 
 
 def spoil(rng: random.Random, program: Program) -> None:
@@ -82,9 +105,11 @@ def random_action(rng: random.Random, style: Style) -> Action:
 
 def write_start(
     rng: random.Random, program: Program, start: Code, chapters: list[Code], style: Style,
-    with_timers: bool,
+    with_timers: bool, with_protection: bool,
 ) -> None:
-    if rng.random() >= style.watchdog_runs:
+    if style.rescued and rng.random() < style.rescued:
+        start.put(assembler.store(actions.WDTCTL, rng.choice(WATCHDOG_THAT_RESETS)))
+    elif rng.random() >= style.watchdog_runs:
         actions.stop_watchdog(rng, start)
     if rng.random() < 0.9:
         actions.open_pins(rng, start)
@@ -92,7 +117,8 @@ def write_start(
         start.put(assembler.copy(actions.SYSRSTIV, rng.choice(actions.PORT_OUTPUTS)))
     if rng.random() < 0.4:
         show_what_a_reset_left(rng, start, with_timers)
-    start.put(assembler.set_register(assembler.SP, random_stack(rng, with_timers)))
+    stack = random_stack(rng, with_timers, with_protection)
+    start.put(assembler.set_register(assembler.SP, stack))
     if rng.random() < style.interrupts:
         enable_something(rng, start)
     write_choice(rng, program, start, chapters)
@@ -110,10 +136,11 @@ def show_what_a_reset_left(rng: random.Random, start: Code, with_timers: bool) -
             actions.show(rng, start, dma_actions.own_register(rng))
 
 
-def random_stack(rng: random.Random, with_timers: bool) -> int:
+def random_stack(rng: random.Random, with_timers: bool, with_protection: bool) -> int:
     if rng.random() < 0.9:
         return rng.choice((0x2400, 0x2400, 0x2300, 0x2201, 0x12F00))
     unusual = UNUSUAL_STACKS + (STACKS_ON_TIMERS + STACKS_ON_DMA if with_timers else ())
+    unusual += STACKS_ON_PROTECTION if with_protection else ()
     return rng.choice(unusual)
 
 
@@ -210,7 +237,7 @@ def meet_interval(rng: random.Random, code: Code) -> None:
 def stack_on_flags(rng: random.Random, code: Code) -> None:
     """Over SFRIFG1, or over IFG of two ports, with IV of the second port right behind it.
 
-    SP of SFRIFG1 + 4 would be a STOP, since 0104h isn't built.
+    SP of SFRIFG1 + 4 would be a STOP without protection, since 0104h isn't built then.
     """
     flags = rng.choice((actions.SFRIFG1, 0x021C, 0x021C, 0x023C))
     if flags == actions.SFRIFG1:
@@ -318,7 +345,7 @@ WEIGHTS = {"shift": 10, "several_registers": 7, "extended_one_operand": 14, "add
 SRAM_RANGES = ((0x1C20, 0x1CFF), (0x1C20, 0x23FF))
 DATA_RANGES = (*SRAM_RANGES * 5, (0x1900, 0x197F), (0x4400, 0x13FFF), (0x4400, 0x13FFF),
                (0x13FF0, 0x1400F), (0x10000, 0x1000F), (0x0214, 0x022A))
-# An index on an address here may wrap to 0, where no register is built: STOP.
+# An index on an address here may wrap to 0, which without protection is a STOP.
 BORDER_RANGE = (0x0FFF0, 0x0FFFF)
 
 

@@ -20,6 +20,7 @@ def report(kinds: Counter, statistics: Counter) -> str:
     lines += timer_lines(starting(statistics, "timer "))
     lines += dma_lines(starting(statistics, "dma "))
     lines.append(f"interrupts of DMA: {entries['FFE4']}")
+    lines += protection_lines(statistics)
     return "\n".join(wrapped(line) for line in lines) + "\n"
 
 
@@ -50,6 +51,20 @@ def dma_lines(dma: Counter) -> list[str]:
         f"transfers of DMA: {transfers.total()}, by mode and channel: {listed(transfers)}",
         f"transfers by their widths: {listed(widths)}",
         f"what else DMA did: {listed(others)}",
+    ]
+
+
+def protection_lines(statistics: Counter) -> list[str]:
+    violations, others = Counter(), Counter()
+    for name, number in starting(statistics, "protection: ").items():
+        (violations if "'s " in name else others)[name] += number
+    waits = starting(statistics, "waits with ")
+    return [
+        f"accesses that were refused: {violations.total()}, by kind and place: "
+        f"{listed(violations)}",
+        f"what else protection did: {listed(others)}",
+        f"NMIs: {statistics['entry FFFC']} ({listed(starting(statistics, 'nmi '))})",
+        f"waits: {waits.total()}, {listed(waits)}",
     ]
 
 

@@ -25,7 +25,10 @@ BAD_IMAGE = Answer("", "capsule: bad image\n", 6)
 BAD_BENCH = Answer("", "capsule: bad bench\n", 7)
 
 
-def run(image: bytes, bench: bytes | None, statistics: Counter, with_timers: bool = True) -> Answer:
+def run(
+    image: bytes, bench: bytes | None, statistics: Counter, with_timers: bool = True,
+    with_protection: bool = True,
+) -> Answer:
     """The answer for the files of an image and of a bench, or of no bench."""
     if len(image) > LONGEST_IMAGE:
         return TOO_LONG
@@ -34,7 +37,8 @@ def run(image: bytes, bench: bytes | None, statistics: Counter, with_timers: boo
     except images.Refused:
         return BAD_IMAGE
     if bench is None:
-        return Answer(whole_trace(store, Bench(), statistics, with_timers), "", 0)
+        text = whole_trace(store, Bench(), statistics, with_timers, with_protection)
+        return Answer(text, "", 0)
     if len(bench) > LONGEST_BENCH:
         return TOO_LONG
     longest = benches.END_WITH_TIMERS if with_timers else benches.END_WITHOUT_TIMERS
@@ -42,13 +46,14 @@ def run(image: bytes, bench: bytes | None, statistics: Counter, with_timers: boo
         right_bench = benches.bench_of_text(bench, longest)
     except benches.Refused:
         return BAD_BENCH
-    return Answer(whole_trace(store, right_bench, statistics, with_timers), "", 0)
+    text = whole_trace(store, right_bench, statistics, with_timers, with_protection)
+    return Answer(text, "", 0)
 
 
 def whole_trace(
-    store: bytearray, bench: Bench, statistics: Counter, with_timers: bool
+    store: bytearray, bench: Bench, statistics: Counter, with_timers: bool, with_protection: bool
 ) -> str:
-    chip = Chip(store, bench.fill, statistics, with_timers)
+    chip = Chip(store, bench.fill, statistics, with_timers, with_protection)
     events = bench.events_of_ticks()
     lines: list[str] = []
     for tick in range(bench.end):

@@ -12,8 +12,14 @@ class Cause(IntEnum):
     SOFTWARE_POR = 0x14
     WATCHDOG_INTERVAL = 0x16
     WATCHDOG_PASSWORD = 0x18
+    FRAM_PASSWORD = 0x1A
     PERIPHERAL_FETCH = 0x1E
     POWER_PASSWORD = 0x20
+    PROTECTION_PASSWORD = 0x22
+    INFORMATION_VIOLATION = 0x28
+    SEGMENT_1_VIOLATION = 0x2A
+    SEGMENT_2_VIOLATION = 0x2C
+    SEGMENT_3_VIOLATION = 0x2E
     RESERVED_WORD = 0x40
 
 
@@ -61,7 +67,7 @@ class System:
         if address == PM5CTL0:
             return LOCK_BIT if self.locked else 0
         if address == SYSSNIV:
-            return 0
+            return 0  # where the memory protection unit isn't built
         if address == SYSRSTIV:
             cause = self.reset_cause
             self.reset_cause = 0
