@@ -268,7 +268,7 @@ fn reads_a_bench(rt: HostRuntime) -> Result<(), Fail> {
     assert_eq!(rt; bench.events(u32::MAX), [].as_slice());
 
     let short = read_bench(rt.alloc(), b"version = 1\nend = 10000000\nevent = []\n")?;
-    assert_eq!(rt; (short.end(), short.fill()), (32_768, 0));
+    assert_eq!(rt; (short.end(), short.fill()), (10_000_000, 0));
     let plain = Bench::plain(rt.alloc(), 1, 255)?;
     assert_eq!(rt; (plain.end(), plain.fill()), (1, 255));
     assert_eq!(rt; plain.events(0), [].as_slice());
