@@ -11,7 +11,7 @@ ghost use Rattle.bus_fabric.specs.Memory.{fram_copied, sram_filled};
 use crate::memory::{copy_fram, fill_sram, first_memory};
 use arrayvec::ArrayVec;
 use chip_words::{Access, NoMemory, Seal, Segment, Size, load};
-use dma_unit::Dma;
+use dma_unit::DmaUnit;
 use fram_ctrl::FramCtrl;
 use interrupt_reset::{Causes, Sys};
 use memory_map::is_fram;
@@ -29,7 +29,7 @@ pub struct Fabric {
     pub sys: Sys,
     pub ports: Ports,
     pub timers: Timers,
-    pub dma: Dma,
+    pub dma: DmaUnit,
     pub fram: FramCtrl,
     pub mpu: MpuSegments,
     /// An NMI is requested.
@@ -66,7 +66,7 @@ impl Fabric {
             sys: Sys::new(),
             ports: Ports::new(),
             timers: Timers::new(),
-            dma: Dma::new(),
+            dma: DmaUnit::new(),
             fram: FramCtrl::new(),
             mpu: MpuSegments::new(),
             nmi: false,

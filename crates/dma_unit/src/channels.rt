@@ -17,14 +17,14 @@ const CHANNEL_BYTES: u32 = 0x10;
 
 /// The three channels of DMA (SLAU367, DMA controller).
 #[derive(Debug, Drop)]
-pub struct Dma {
+pub struct DmaUnit {
     first: Channel,
     second: Channel,
     third: Channel,
     dmactl4: u16,
 }
 
-impl Model for Dma {
+impl Model for DmaUnit {
     ghost use Rattle.std.specs.Prelude.{[], ◌∷◌};
     ghost use Rattle.chip_words.specs.Dma.{Dma as DmaRegisters};
 
@@ -36,12 +36,12 @@ impl Model for Dma {
     } };
 }
 
-impl Dma {
+impl DmaUnit {
     /// The values after a BOR.
-    pub fn new() -> Dma
+    pub fn new() -> DmaUnit
         ensures { result ≡ first_dma }
     {
-        Dma {
+        DmaUnit {
             first: Channel::new(),
             second: Channel::new(),
             third: Channel::new(),
@@ -265,7 +265,7 @@ impl Dma {
 
     /// No transfer waits, and no channel rests.
     #[tactic(auto, unfolding(crate::specs::Transfers::is_quiet))]
-    pub fn is_quiet(&self) -> bool
+    pub fn quiet(&self) -> bool
         ensures { result ≡ is_quiet self.now }
     {
         self.first.is_quiet() && self.second.is_quiet() && self.third.is_quiet()

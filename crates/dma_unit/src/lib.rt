@@ -8,6 +8,6 @@ mod moves;
 mod tests;
 mod transfers;
 
-pub use channels::Dma;
+pub use channels::DmaUnit;
 pub use moves::make;
 pub use transfers::Move;

@@ -1,4 +1,4 @@
-use crate::Dma;
+use crate::DmaUnit;
 use chip_words::Size;
 
 const DMACTL0: u32 = 0x0500;
@@ -8,13 +8,13 @@ const DMAIV: u32 = 0x050E;
 /// CTL of channel 0. SA, DA and SZ are 02h, 06h and 0Ah further on, and the next channel 10h.
 const CTL: u32 = 0x0510;
 
-fn put(dma: &mut Dma, at: u32, word: u16) {
+fn put(dma: &mut DmaUnit, at: u32, word: u16) {
     dma.write(at, Size::Word, u32::from(word));
 }
 
 /// A unit whose channel 0 has trigger number 1, and is then written to CTL.
-fn with_channel(ctl: u16, source: u16, destination: u16, size: u16) -> Dma {
-    let mut dma = Dma::new();
+fn with_channel(ctl: u16, source: u16, destination: u16, size: u16) -> DmaUnit {
+    let mut dma = DmaUnit::new();
     put(&mut dma, DMACTL0, 1);
     put(&mut dma, CTL + 0x02, source);
     put(&mut dma, CTL + 0x06, destination);
@@ -24,7 +24,7 @@ fn with_channel(ctl: u16, source: u16, destination: u16, size: u16) -> Dma {
 }
 
 /// The address that the transfer of a tick reads: 0 where no channel is due, and the tick goes by.
-fn tick(dma: &mut Dma) -> u32 {
+fn tick(dma: &mut DmaUnit) -> u32 {
     match dma.due() {
         Some(channel) => dma.transfer(channel).from,
         None => {
@@ -49,7 +49,7 @@ fn registers_keep_their_bits(rt: HostRuntime) {
         (0x0520, 0x7FFE),
         (0x053A, 0xFFFF),
     ] {
-        let mut dma = Dma::new();
+        let mut dma = DmaUnit::new();
         assert_eq!(rt; dma.read(at, Size::Word), 0);
         assert_eq!(rt; dma.write(at, Size::Word, 0xFFFF), None);
         assert_eq!(rt; dma.read(at, Size::Word), word);
@@ -120,7 +120,7 @@ fn addresses_step(rt: HostRuntime) {
         assert_eq!(rt; (second.read, second.write), (read, write));
     }
     // Upward through the end of the addresses.
-    let mut dma = Dma::new();
+    let mut dma = DmaUnit::new();
     put(&mut dma, CTL + 0x02, 0xFFFF);
     put(&mut dma, CTL + 0x04, 0x000F);
     put(&mut dma, CTL + 0x0A, 3);
@@ -162,7 +162,7 @@ fn a_trigger_does_nothing_while_transfers_wait(rt: HostRuntime) {
         let mut dma = with_channel(ctl, 16, 64, 3);
         dma.fire(0b10);
         for from in moves {
-            if !dma.is_quiet() {
+            if !dma.quiet() {
                 dma.fire(0b10);
             }
             assert_eq!(rt; tick(&mut dma), from);
@@ -182,16 +182,16 @@ fn every_fourth_transfer_since_the_enable_counts(rt: HostRuntime) {
     dma.fire(0b10);
     for from in [16_u32, 0, 0, 16, 16, 16, 16, 0] {
         assert_eq!(rt; tick(&mut dma), from);
-        assert!(rt; !dma.is_quiet());
+        assert!(rt; !dma.quiet());
     }
     // One tick of the rest is left, which the mode 5 doesn't know.
     put(&mut dma, CTL, 0x5F10);
     assert_eq!(rt; tick(&mut dma), 16);
-    assert!(rt; !dma.is_quiet());
+    assert!(rt; !dma.quiet());
     // The enable ends it.
     put(&mut dma, CTL, 0x0000);
     put(&mut dma, CTL, 0x6F10);
-    assert!(rt; dma.is_quiet());
+    assert!(rt; dma.quiet());
 }
 
 #[test]
@@ -209,7 +209,7 @@ fn sz_tells_what_is_left(rt: HostRuntime) {
 #[test]
 fn iv_tells_the_least_and_clears_it(rt: HostRuntime) {
     for (at, size) in [(DMAIV, Size::Word), (DMAIV + 1, Size::Byte)] {
-        let mut dma = Dma::new();
+        let mut dma = DmaUnit::new();
         for (ctl, word) in [(CTL, 0x000C_u16), (0x0520, 0x0008), (0x0530, 0x000C)] {
             put(&mut dma, ctl, word);
         }
