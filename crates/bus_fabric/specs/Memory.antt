@@ -1,5 +1,5 @@
 -- All of memory at once: what it holds at first, and after many of its bytes were written.
-use Rattle.std.specs.Prelude.{ℕ, List, map, replicate, slice_index, if◌then◌else◌}
+use Rattle.std.specs.Prelude.{◌≡◌, ◌<◌, ◌≤◌, ℕ, List, map, replicate, slice_index, if◌then◌else◌}
 use Rattle.std.specs.List.{range_with_len}
 use Rattle.chip_words.specs.Map.{is_fram, is_sram}
 use Rattle.chip_words.specs.Memory.{memory_size}
@@ -30,3 +30,7 @@ sram_filled fill memory = memory_by (λ at. if is_sram at then fill else slice_i
 -- a memory whose FRAM was given the bytes of another
 abbrev pub fram_copied : List ℕ → List ℕ → List ℕ
 fram_copied bytes memory = memory_by (λ at. if is_fram at then slice_index bytes at else slice_index memory at)
+
+-- two memories have the same bytes at the addresses from low up to and without high
+abbrev pub AgreeWithin : ℕ → ℕ → List ℕ → List ℕ → Type 0
+AgreeWithin low high bytes memory = (at : ℕ) → low ≤ at → at < high → slice_index memory at ≡ slice_index bytes at

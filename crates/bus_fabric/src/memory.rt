@@ -2,7 +2,7 @@
 
 ghost use Rattle.std.specs.Prelude.{◌≡◌, ℕ, ◌<◌, ◌≤◌, IfOk, slice_index, length, vec_len};
 ghost use Rattle.memory_map.specs.declared.TheConstants.{MAIN_END};
-ghost use Rattle.bus_fabric.specs.Memory.{first_memory as first_memory_of, fram_copied, no_bytes, sram_filled};
+ghost use Rattle.bus_fabric.specs.Memory.{AgreeWithin, first_memory as first_memory_of, fram_copied, no_bytes, sram_filled};
 
 use chip_words::{NoMemory, fill_within, memory_size};
 use memory_map::{INFO_END, INFO_START, MAIN_END, MAIN_START, SRAM_END, SRAM_START};
@@ -71,7 +71,7 @@ fn copy_within(memory: &mut [u8], bytes: &[u8], low: u32, high: u32)
     requires order { low ≤ high }
     requires room { high ≤ length memory.old }
     requires bytes { length bytes.now ≡ length memory.old }
-    ensures inside { (at : ℕ) → low ≤ at → at < high → slice_index memory.new at ≡ slice_index bytes.now at }
+    ensures inside { AgreeWithin low high bytes.now memory.new }
     ensures below { (at : ℕ) → at < low → slice_index memory.new at ≡ slice_index memory.old at }
     ensures above { (at : ℕ) → high ≤ at → slice_index memory.new at ≡ slice_index memory.old at }
 {
