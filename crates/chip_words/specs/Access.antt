@@ -1,7 +1,7 @@
 -- One access to the bus: what it answers, and the bus part of the chip behind it. Its rules come in this order: the
 -- address of a word, the number of a write and whether it is absent, the first word of an instruction,
 -- the right, and the region.
-use Rattle.std.specs.Prelude.{ℕ, ◌+◌, ◌^◌, bit_or, min, ◌==◌, ◌&&◌, ◌||◌, not, nat_lt, Bool, true, false, if◌then◌else◌, List, [], ◌∷◌, ◌++◌, Option, Some, None}
+use Rattle.std.specs.Prelude.{ℕ, ◌+◌, ◌^◌, bit_or, min, ◌==◌, ◌&&◌, not, nat_lt, Bool, true, false, if◌then◌else◌, List, [], ◌∷◌, ◌++◌, Option, Some, None}
 use Rattle.chip_words.specs.declared.sizes.Size.{Size}
 use Rattle.chip_words.specs.declared.sizes.Size.TheVariants.{Byte}
 use Rattle.chip_words.specs.declared.accesses.Kind.{Kind}
@@ -18,6 +18,7 @@ use Rattle.chip_words.specs.declared.segments.Segment.{Segment}
 use Rattle.chip_words.specs.declared.segments.Right.{Right}
 use Rattle.chip_words.specs.declared.segments.Right.TheVariants.{Yes, No}
 use Rattle.chip_words.specs.Segments.{flag_of}
+use Rattle.chip_words.specs.Encap.{kept_after}
 use Rattle.chip_words.specs.Right.{right_of}
 use Rattle.chip_words.specs.Sys.{sys_requested}
 use Rattle.chip_words.specs.Units.{Reply, Units, periph}
@@ -49,11 +50,14 @@ requested cause part = record part {
   causes = with_cause cause part.causes;
 }
 
--- the peripherals' reply; a register that isn't built answers 0 and stops the run
+-- the peripherals' reply; a write that sets the seal makes it the addresses that stay secret
 abbrev pub replied : Reply → BusPart → Accessed
 replied reply part = record {
   answer = reply.value;
-  part = requested reply.cause (record part { units = reply.units; stop = part.stop || not reply.built });
+  part = requested reply.cause (record part {
+    units = reply.units;
+    kept = kept_after part.kept (part.units).encap (reply.units).encap;
+  });
 }
 
 -- an access to a register

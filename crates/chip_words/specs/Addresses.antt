@@ -1,7 +1,7 @@
 -- The registers of the peripherals by address, and which unit an address is of (SLAS704, peripheral file map).
-use Rattle.std.specs.Prelude.{ℕ, ◌+◌, ◌-◌, ◌%◌, ◌&&◌, not, Bool, nat_le, nat_lt, if◌then◌else◌, List, [], ◌∷◌, Option, Some, None}
+use Rattle.std.specs.Prelude.{ℕ, ◌+◌, ◌-◌, ◌%◌, ◌&&◌, nat_le, nat_lt, if◌then◌else◌, List, [], ◌∷◌, Option, Some, None}
 use Rattle.chip_words.specs.declared.unit_names.UnitName.{UnitName}
-use Rattle.chip_words.specs.declared.unit_names.UnitName.TheVariants.{Sys, Timers, Ports, Dma, Fram, Mpu}
+use Rattle.chip_words.specs.declared.unit_names.UnitName.TheVariants.{Sys, Timers, Ports, Dma, Fram, Mpu, Encap}
 
 abbrev pub SFRIE1 : ℕ
 SFRIE1 = 0x0100
@@ -93,6 +93,15 @@ MPUSEGB1 = 0x05A6
 abbrev pub MPUSAM : ℕ
 MPUSAM = 0x05A8
 
+abbrev pub MPUIPC0 : ℕ
+MPUIPC0 = 0x05AA
+
+abbrev pub MPUIPSEGB2 : ℕ
+MPUIPSEGB2 = 0x05AC
+
+abbrev pub MPUIPSEGB1 : ℕ
+MPUIPSEGB1 = 0x05AE
+
 -- so many bytes from an address on are of a unit
 pub record UnitRow : Type 0 where
   pub low : ℕ
@@ -120,6 +129,7 @@ unit_rows =
     ∷ of_unit TB0CTL TIMER_BYTES Timers
     ∷ of_unit DMACTL0 0x40 Dma
     ∷ of_unit MPUCTL0 10 Mpu
+    ∷ of_unit MPUIPC0 6 Encap
     ∷ []
 
 -- the unit of the first row that has an address
@@ -130,13 +140,6 @@ unit_in (row ∷ rows) at = if nat_le row.low at && nat_lt at (row.low + row.byt
 -- the unit that an address is of; where there is none an access reads 0 and changes nothing
 unfoldable pub unit_at : ℕ → Option UnitName
 unit_at at = unit_in unit_rows at
-
--- the registers of IP Encapsulation, which alone aren't built
-abbrev pub MPUIPC0 : ℕ
-MPUIPC0 = 0x05AA
-
-abbrev pub is_built : ℕ → Bool
-is_built at = not (nat_le MPUIPC0 at && nat_lt at (MPUIPC0 + 6))
 
 -- the even address of the register that an address is of
 abbrev pub register_address : ℕ → ℕ

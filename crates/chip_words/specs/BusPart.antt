@@ -10,7 +10,7 @@ pub record BusPart : Type 0 where
   -- the bytes of FRAM and SRAM by address
   pub memory : List ℕ
   pub units : Units
-  -- the addresses that stay secret, which no unit that is built seals
+  -- the addresses whose bytes stay secret, also while power is off and while a boot runs
   pub kept : Seal
   -- what SRAM holds when power comes on, which nothing changes
   pub fill : ℕ

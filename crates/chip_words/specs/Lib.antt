@@ -17,6 +17,8 @@ pub mod Timers
 pub mod Segments
 pub mod Fram
 pub mod Mpu
+pub mod Encap
+pub mod Public
 pub mod Channel
 pub mod Dma
 pub mod Units

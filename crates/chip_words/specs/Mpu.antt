@@ -1,5 +1,5 @@
 -- The segments of the memory protection unit (SLAU367, MPU), and SYSSNIV, which tells its flags.
-use Rattle.std.specs.Prelude.{ℕ, ◌+◌, ◌-◌, ◌*◌, ◌/◌, ◌^◌, ◌==◌, ◌&&◌, not, nat_le, nat_lt, Bool, false, if◌then◌else◌, Option, Some, None, bit_and, bit_or}
+use Rattle.std.specs.Prelude.{ℕ, ◌+◌, ◌-◌, ◌^◌, ◌==◌, ◌&&◌, not, nat_le, nat_lt, Bool, false, if◌then◌else◌, Option, Some, None, bit_and, bit_or}
 use Rattle.chip_words.specs.declared.sizes.Size.{Size}
 use Rattle.chip_words.specs.declared.accesses.Kind.{Kind}
 use Rattle.chip_words.specs.declared.accesses.Kind.TheVariants.{Fetch, Read, Write}
@@ -12,7 +12,7 @@ use Rattle.chip_words.specs.Bits.{has_bit, with_part}
 use Rattle.chip_words.specs.Causes.{MPU_PASSWORD}
 use Rattle.chip_words.specs.Map.{is_fram}
 use Rattle.chip_words.specs.Passwords.{is_open_after, lower_byte, has_wrong_password}
-use Rattle.chip_words.specs.Segments.{MAIN_FRAM, border, flag_of, number_of, rights_of}
+use Rattle.chip_words.specs.Segments.{MAIN_FRAM, border, border_bits, flag_of, number_of, rights_of}
 
 pub record Mpu : Type 0 where
   -- the lower byte of MPUCTL0
@@ -154,10 +154,6 @@ abbrev pub flags_written : Mpu → ℕ → Size → ℕ → ℕ
 flags_written mpu at size value =
     if register_address at == MPUCTL1 && mpu.is_open then bit_and mpu.mpuctl1 (with_part size at mpu.mpuctl1 value)
     else (mpu_touched mpu at).mpuctl1
-
--- borders keep bits 15:6
-abbrev pub border_bits : ℕ → ℕ
-border_bits word = word / 64 * 64
 
 unfoldable pub mpu_written : Mpu → ℕ → Size → ℕ → Mpu
 mpu_written mpu at size value = record {

@@ -43,3 +43,7 @@ MAIN_FRAM = 0x4400
 -- the address of a border, of whose register bits 15:6 count
 abbrev pub border : ℕ → ℕ
 border register = register / 64 * 64 * 16
+
+-- what a register of a border keeps of a word: bits 15:6
+abbrev pub border_bits : ℕ → ℕ
+border_bits word = word / 64 * 64

@@ -1,5 +1,5 @@
 ghost use Rattle.std.specs.Prelude.{◌≡◌};
-ghost use Rattle.chip_words.specs.Addresses.{is_built as is_built_address, unit_at as unit_at_address};
+ghost use Rattle.chip_words.specs.Addresses.{unit_at as unit_at_address};
 
 /// A unit of the peripherals, which has some of their addresses.
 #[derive(Clone, Copy, Debug, PartialEq, Eq)]
@@ -16,6 +16,8 @@ pub enum UnitName {
     Fram,
     /// The memory protection unit, and SYSSNIV, which tells its flags.
     Mpu,
+    /// IP Encapsulation.
+    Encap,
 }
 
 pub const SFRIE1: u32 = 0x0100;
@@ -95,17 +97,11 @@ pub const MPUSEGB1: u32 = 0x05A6;
 
 pub const MPUSAM: u32 = 0x05A8;
 
-/// The first and the last register of IP Encapsulation, which alone isn't built.
-const MPUIPC0: u32 = 0x05AA;
+pub const MPUIPC0: u32 = 0x05AA;
 
-const MPUIPSEGB1_LAST: u32 = 0x05AF;
+pub const MPUIPSEGB2: u32 = 0x05AC;
 
-/// Says whether the register at an address of the peripherals is built, or there is none.
-pub fn is_built(at: u32) -> bool
-    ensures { result ≡ is_built_address at }
-{
-    !(MPUIPC0..=MPUIPSEGB1_LAST).contains(&at)
-}
+pub const MPUIPSEGB1: u32 = 0x05AE;
 
 /// The unit that an address of the peripherals is of, where there is one.
 #[tactic(auto, unfolding(crate::specs::Addresses::unit_at))]
@@ -124,6 +120,7 @@ pub fn unit_at(at: u32) -> Option<UnitName>
         TA0CTL..=TA0_LAST | TA1CTL..=TA1_LAST | TB0CTL..=TB0_LAST => Some(UnitName::Timers),
         DMACTL0..=DMA_LAST => Some(UnitName::Dma),
         MPUCTL0..=MPUSAM => Some(UnitName::Mpu),
+        MPUIPC0..=MPUIPSEGB1 => Some(UnitName::Encap),
         _ => None,
     }
 }
