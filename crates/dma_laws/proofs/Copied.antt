@@ -49,7 +49,7 @@ unfolding access
 read at size part opened =
     ap (listed Dma Read (aligned size at) size true) (open_access Read (aligned size at) size 0 part opened)
 
-write :
+pub write :
     (at : ℕ) (size : Size) (value : ℕ) (part : BusPart) → part.budget ≡ None →
     IsOpen part.units Write (aligned size at) →
     access Dma Write at size value part
@@ -63,7 +63,7 @@ write at size value part whole opened =
     whole
     ∙ ap (listed Dma Write place size true) (open_access Write place size value (numbered part) opened)
 
-stored-fitted :
+pub stored-fitted :
     (memory : List ℕ) (at : ℕ) (size : Size) (value : ℕ) →
     stored memory at size (fitted_to size value) ≡ stored memory at size value
 unfolding stored

@@ -2,3 +2,4 @@ pub mod Shapes
 pub mod Counted
 pub mod Copied
 pub mod Units
+pub mod Refusing

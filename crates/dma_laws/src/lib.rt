@@ -1,5 +1,5 @@
 //! Laws of DMA, from the definitions of its channels and transfers alone: which accesses a transfer makes, what it
-//! leaves in memory, and how many a trigger makes.
+//! leaves in memory, what one without a right moves, and how many a trigger makes.
 //!
 //! The contract of each function is a law. The functions do nothing.
 #![tactic(auto)]
@@ -7,6 +7,7 @@
 ghost use Rattle.dma_laws.specs.Accesses.{TransfersReadThenWrite};
 ghost use Rattle.dma_laws.specs.Copies.{ChannelsCopyWords, TransfersCopyWords, TransfersMoveAValue};
 ghost use Rattle.dma_laws.specs.Iterated.{AddressesStep, AddressesStepUp};
+ghost use Rattle.dma_laws.specs.Refused.{RefusedTransfersMoveNothing, TransfersKeepOutOfArea};
 ghost use Rattle.dma_laws.specs.Waits.{EachWaitingIsWithin, TransfersEnd, TransfersLowerWaiting, TriggersMakeFewTransfers, TriggersMakeFewWait, WaitingIsWithin};
 
 /// A transfer reads once and then writes once, whatever it reads, and makes no access else: DMA never fetches.
@@ -34,6 +35,19 @@ pub fn transfers_copy_words()
 #[tactic(auto, using(crate::proofs::Copied::channels_copy_words))]
 pub fn channels_copy_words()
     ensures { ChannelsCopyWords }
+{}
+
+/// A transfer without the right to its source stores nothing of it, but 3FFFh or FFh, and one without the right to its
+/// destination leaves memory as it is.
+#[tactic(auto, using(crate::proofs::Refusing::refused_transfers_move_nothing))]
+pub fn refused_transfers_move_nothing()
+    ensures { RefusedTransfersMoveNothing }
+{}
+
+/// So DMA reads nothing of the area of IP Encapsulation and writes nothing there, whatever the segments would say.
+#[tactic(auto, using(crate::proofs::Refusing::transfers_keep_out_of_area))]
+pub fn transfers_keep_out_of_area()
+    ensures { TransfersKeepOutOfArea }
 {}
 
 /// Each address of a channel steps by its own field of CTL and its own width, until the working size is used up.
