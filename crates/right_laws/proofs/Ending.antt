@@ -8,21 +8,32 @@ use Rattle.chip_words.specs.declared.segments.Segment.TheVariants.{One, Two, Thr
 use Rattle.chip_words.specs.Bits.{has_bit}
 use Rattle.chip_words.specs.BusPart.{BusPart}
 use Rattle.chip_words.specs.Causes.{with_cause}
-use Rattle.chip_words.specs.Mpu.{Mpu, MPUSEGIE}
+use Rattle.chip_words.specs.Mpu.{MPUSEGIE}
 use Rattle.chip_words.specs.Segments.{cause_of_violation, flag_of}
 use Rattle.chip_words.specs.Steps.{ended_at, ended_with, has_reset, violation_ended}
+use Rattle.chip_words.specs.Units.{Units}
 use Rattle.right_laws.specs.Ends.{HasAllCauses, NoNotesNoChange, StepsEndByNotes, apart_from_end, at_some_place, flags, has_vs, is_asked, requests}
 use Rattle.right_laws.specs.Numbers.{place_flag}
 use Rattle.right_laws.proofs.Refusing.{or_flag}
 
 -- ---- one place
 
-reset_by_vs : (place : Segment) (mpu : Mpu) → has_reset place mpu ≡ has_vs place mpu.mpusam
-reset_by_vs One mpu = refl
-reset_by_vs Two mpu = refl
-reset_by_vs Three mpu = refl
-reset_by_vs Info mpu = refl
-reset_by_vs Sealed mpu = refl
+reset_by_vs : (place : Segment) (units : Units) → has_reset place units ≡ has_vs place units
+reset_by_vs One units = refl
+reset_by_vs Two units = refl
+reset_by_vs Three units = refl
+reset_by_vs Info units = refl
+reset_by_vs Sealed units = refl
+
+-- the end of a step at a place leaves VS of each
+same_vs :
+    (place ended : Segment) (part : BusPart) →
+    has_vs place (violation_ended ended part).units ≡ has_vs place part.units
+same_vs One ended part = refl
+same_vs Two ended part = refl
+same_vs Three ended part = refl
+same_vs Info ended part = refl
+same_vs Sealed ended part = refl
 
 small_cause : (place : Segment) → cause_of_violation place < 65
 small_cause One = omega arith
@@ -59,31 +70,31 @@ cause_length :
 cause_length requested place true all = length-set requested (cause_of_violation place) true ∙ all
 cause_length requested place false all = all
 
--- the end of a step at one place, by the registers' control and rights
-record EndsAt (noted : Bool) (place : Segment) (control rights : ℕ) (before after : BusPart) : Type 0 where
+-- the end of a step at one place, by the control of the segments and VS of each place
+record EndsAt (noted : Bool) (place : Segment) (control : ℕ) (vs : Segment → Bool) (before after : BusPart) : Type 0 where
   kept_control : ((after.units).mpu).mpuctl0 ≡ control
-  kept_rights : ((after.units).mpu).mpusam ≡ rights
+  kept_vs : (other : Segment) → has_vs other after.units ≡ vs other
   all : HasAllCauses after
   bits : (k : ℕ) → has_bit (flags after) k ≡ (has_bit (flags before) k || noted && k == flag_of place)
   by_step :
       (n : ℕ) →
       is_asked after.causes n
-      ≡ (is_asked before.causes n || noted && has_vs place rights && n == cause_of_violation place)
+      ≡ (is_asked before.causes n || noted && vs place && n == cause_of_violation place)
   of_chip :
       (n : ℕ) →
       is_asked (requests after) n
-      ≡ (is_asked (requests before) n || noted && has_vs place rights && n == cause_of_violation place)
-  nmi : after.nmi ≡ (before.nmi || noted && not (has_vs place rights) && has_bit control MPUSEGIE)
+      ≡ (is_asked (requests before) n || noted && vs place && n == cause_of_violation place)
+  nmi : after.nmi ≡ (before.nmi || noted && not (vs place) && has_bit control MPUSEGIE)
   kept_notes : after.noted ≡ before.noted
   rest : apart_from_end after ≡ apart_from_end before
 
 ends_at :
-    (noted : Bool) (place : Segment) (control rights : ℕ) (part : BusPart) →
-    ((part.units).mpu).mpuctl0 ≡ control → ((part.units).mpu).mpusam ≡ rights → HasAllCauses part →
-    EndsAt noted place control rights part (if noted then violation_ended place part else part)
-ends_at false place control rights part control_is rights_is all = record {
+    (noted : Bool) (place : Segment) (control : ℕ) (vs : Segment → Bool) (part : BusPart) →
+    ((part.units).mpu).mpuctl0 ≡ control → ((other : Segment) → has_vs other part.units ≡ vs other) →
+    HasAllCauses part → EndsAt noted place control vs part (if noted then violation_ended place part else part)
+ends_at false place control vs part control_is vs_is all = record {
   kept_control = control_is;
-  kept_rights = rights_is;
+  kept_vs = vs_is;
   all = all;
   bits = λ k. sym (or-false (has_bit (flags part) k));
   by_step = λ n. sym (or-false (is_asked part.causes n));
@@ -92,26 +103,26 @@ ends_at false place control rights part control_is rights_is all = record {
   kept_notes = refl;
   rest = refl;
 }
-ends_at true place control rights part control_is rights_is all =
-    let vs : has_reset place (part.units).mpu ≡ has_vs place rights =
-    reset_by_vs place (part.units).mpu ∙ ap (has_vs place) rights_is in
+ends_at true place control vs part control_is vs_is all =
+    let resets = has_reset place part.units in
+    let by_vs : resets ≡ vs place = reset_by_vs place part.units ∙ vs_is place in
     record {
       kept_control = control_is;
-      kept_rights = rights_is;
+      kept_vs = λ other. same_vs other place part ∙ vs_is other;
       all = record {
-        by_step = cause_length part.causes place (has_reset place (part.units).mpu) all.by_step;
-        of_chip = cause_length (requests part) place (has_reset place (part.units).mpu) all.of_chip;
+        by_step = cause_length part.causes place resets all.by_step;
+        of_chip = cause_length (requests part) place resets all.of_chip;
       };
       bits = λ k. or_flag (flags part) (flag_of place) k;
       by_step = λ n.
-          cause_asked part.causes place n (has_reset place (part.units).mpu) all.by_step
-          ∙ ap (λ b. is_asked part.causes n || b && n == cause_of_violation place) vs;
+          cause_asked part.causes place n resets all.by_step
+          ∙ ap (λ b. is_asked part.causes n || b && n == cause_of_violation place) by_vs;
       of_chip = λ n.
-          cause_asked (requests part) place n (has_reset place (part.units).mpu) all.of_chip
-          ∙ ap (λ b. is_asked (requests part) n || b && n == cause_of_violation place) vs;
+          cause_asked (requests part) place n resets all.of_chip
+          ∙ ap (λ b. is_asked (requests part) n || b && n == cause_of_violation place) by_vs;
       nmi =
-          ap (λ b. part.nmi || not b && has_bit ((part.units).mpu).mpuctl0 MPUSEGIE) vs
-          ∙ ap (λ c. part.nmi || not (has_vs place rights) && has_bit c MPUSEGIE) control_is;
+          ap (λ b. part.nmi || not b && has_bit ((part.units).mpu).mpuctl0 MPUSEGIE) by_vs
+          ∙ ap (λ c. part.nmi || not (vs place) && has_bit c MPUSEGIE) control_is;
       kept_notes = refl;
       rest = refl;
     }
@@ -164,7 +175,7 @@ unfolding ended_with
 steps_end_by_notes part all =
     let noted = λ (place : Segment). has_bit part.noted (place_flag place) in
     let control = ((part.units).mpu).mpuctl0 in
-    let rights = ((part.units).mpu).mpusam in
+    let vs = λ (place : Segment). has_vs place part.units in
     let p0 : BusPart = record part { noted = 0 } in
     let p1 : BusPart = ended_at part.noted Sealed p0 in
     let p2 : BusPart = ended_at part.noted Info p1 in
@@ -172,11 +183,11 @@ steps_end_by_notes part all =
     let p4 : BusPart = ended_at part.noted Two p3 in
     let p5 : BusPart = ended_at part.noted Three p4 in
     let all_before : HasAllCauses p0 = record { by_step = all.by_step; of_chip = all.of_chip } in
-    let s1 = ends_at (noted Sealed) Sealed control rights p0 refl refl all_before in
-    let s2 = ends_at (noted Info) Info control rights p1 s1.kept_control s1.kept_rights s1.all in
-    let s3 = ends_at (noted One) One control rights p2 s2.kept_control s2.kept_rights s2.all in
-    let s4 = ends_at (noted Two) Two control rights p3 s3.kept_control s3.kept_rights s3.all in
-    let s5 = ends_at (noted Three) Three control rights p4 s4.kept_control s4.kept_rights s4.all in
+    let s1 = ends_at (noted Sealed) Sealed control vs p0 refl (λ place. refl) all_before in
+    let s2 = ends_at (noted Info) Info control vs p1 s1.kept_control s1.kept_vs s1.all in
+    let s3 = ends_at (noted One) One control vs p2 s2.kept_control s2.kept_vs s2.all in
+    let s4 = ends_at (noted Two) Two control vs p3 s3.kept_control s3.kept_vs s3.all in
+    let s5 = ends_at (noted Three) Three control vs p4 s4.kept_control s4.kept_vs s4.all in
     let bits = λ (k : ℕ).
     chained _ _ _ _ _ _ _ _ _ _ _ (s1.bits k) (s2.bits k) (s3.bits k) (s4.bits k) (s5.bits k) in
     record {

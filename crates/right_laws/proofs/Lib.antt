@@ -1,4 +1,5 @@
 pub mod Judging
+pub mod Bounding
 pub mod Dividing
 pub mod Locking
 pub mod Refusing

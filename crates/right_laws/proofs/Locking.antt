@@ -3,7 +3,8 @@ use Rattle.std.proofs.Common.{◌≡◌, ℕ, ◌%◌, ◌==◌, ◌&&◌, not, 
 use Rattle.chip_words.specs.Bits.{has_bit, with_part}
 use Rattle.chip_words.specs.Addresses.{MPUCTL0, MPUSAM, MPUSEGB1, MPUSEGB2, register_address}
 use Rattle.chip_words.specs.Passwords.{lower_byte}
-use Rattle.chip_words.specs.Mpu.{MPULOCK, Mpu, border_bits, control_after, is_taken, mpu_touched, mpu_written}
+use Rattle.chip_words.specs.Mpu.{MPULOCK, Mpu, control_after, is_taken, mpu_touched, mpu_written}
+use Rattle.chip_words.specs.Segments.{border_bits}
 use Rattle.right_laws.specs.Locks.{BordersStayWhole, Event, Flagged, HasWholeBorders, KeepsRegisters, LockKeepsRegisters, Puc, Touched, Written, behind_event, behind_events}
 
 -- ---- borders

@@ -12,6 +12,7 @@ use Rattle.chip_words.specs.BusPart.{BusPart}
 use Rattle.chip_words.specs.Map.{aligned}
 use Rattle.chip_words.specs.Mpu.{MPUSEGIE}
 use Rattle.chip_words.specs.Steps.{step_ended}
+use Rattle.chip_words.specs.Units.{Units}
 use Rattle.right_laws.specs.Numbers.{place_cause, place_flag}
 
 -- a test passes at one of the five places
@@ -22,23 +23,22 @@ at_some_place test = test Sealed || test Info || test One || test Two || test Th
 abbrev pub is_noted : Segment → BusPart → Bool
 is_noted place part = has_bit part.noted (place_flag place)
 
--- VS of a place in MPUSAM; the area has none there
-abbrev pub has_vs : Segment → ℕ → Bool
-has_vs One rights = has_bit rights 3
-has_vs Two rights = has_bit rights 7
-has_vs Three rights = has_bit rights 11
-has_vs Info rights = has_bit rights 15
-has_vs Sealed rights = false
+-- VS of a place: that of the area is in MPUIPC0, and those of the segments are in MPUSAM
+abbrev pub has_vs : Segment → Units → Bool
+has_vs One units = has_bit (units.mpu).mpusam 3
+has_vs Two units = has_bit (units.mpu).mpusam 7
+has_vs Three units = has_bit (units.mpu).mpusam 11
+has_vs Info units = has_bit (units.mpu).mpusam 15
+has_vs Sealed units = has_bit (units.encap).mpuipc0 5
 
 -- a place that was violated asks for a reset with this cause
 abbrev pub asks_for : ℕ → BusPart → Segment → Bool
-asks_for cause part place =
-    is_noted place part && has_vs place ((part.units).mpu).mpusam && cause == place_cause place
+asks_for cause part place = is_noted place part && has_vs place part.units && cause == place_cause place
 
 -- a place that was violated asks for the NMI
 abbrev pub asks_for_nmi : BusPart → Segment → Bool
 asks_for_nmi part place =
-    is_noted place part && not (has_vs place ((part.units).mpu).mpusam) && has_bit ((part.units).mpu).mpuctl0 MPUSEGIE
+    is_noted place part && not (has_vs place part.units) && has_bit ((part.units).mpu).mpuctl0 MPUSEGIE
 
 -- MPUCTL1
 abbrev pub flags : BusPart → ℕ

@@ -1,4 +1,6 @@
 pub mod Numbers
+pub mod Areas
+pub mod Insiders
 pub mod Judged
 pub mod Places
 pub mod Locks

@@ -73,7 +73,7 @@ pub record NotesAlone
   pub rest : after.part ≡ record before { noted = (after.part).noted }
   pub noted : NotesPlace who place before.noted (after.part).noted
 
--- so for every agent, also those that no place refuses yet
+-- so for every agent, also the boot, which no place refuses
 abbrev pub RefusalsNoteAlone : Type 0
 RefusalsNoteAlone =
     (who : Agent) (kind : Kind) (at : ℕ) (size : Size) (value : ℕ) (part : BusPart) (place : Segment) →

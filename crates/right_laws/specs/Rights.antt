@@ -12,6 +12,7 @@ use Rattle.chip_words.specs.Map.{is_fram}
 use Rattle.chip_words.specs.Mpu.{MPUENA, Mpu, segment_at}
 use Rattle.chip_words.specs.Right.{right_of}
 use Rattle.chip_words.specs.Units.{Units}
+use Rattle.right_laws.specs.Insiders.{IsLeftToSegments}
 
 -- MPUSAM gives a segment the right to a kind of access; the area has no right there
 abbrev pub has_right : Segment → Kind → ℕ → Bool
@@ -34,11 +35,12 @@ abbrev pub right_by_bit : Mpu → Kind → ℕ → Right
 right_by_bit mpu kind at =
     if has_right (segment_at mpu at) kind mpu.mpusam then Yes else No (segment_at mpu at)
 
--- with MPUENA set the processor and DMA are judged so in FRAM
+-- with MPUENA set the processor and DMA are judged so in FRAM, where the area leaves the access to the segments
 pub record RightsGoByBits : Type 0 where
   pub processor :
       (units : Units) (ia : ℕ) (kind : Kind) (at : ℕ) → has_bit (units.mpu).mpuctl0 MPUENA ≡ true →
-      is_fram at ≡ true → right_of units (Cpu ia) kind at ≡ right_by_bit units.mpu kind at
+      is_fram at ≡ true → IsLeftToSegments units.encap (Cpu ia) kind at →
+      right_of units (Cpu ia) kind at ≡ right_by_bit units.mpu kind at
   pub dma :
       (units : Units) (kind : Kind) (at : ℕ) → has_bit (units.mpu).mpuctl0 MPUENA ≡ true → is_fram at ≡ true →
-      right_of units Dma kind at ≡ right_by_bit units.mpu kind at
+      IsLeftToSegments units.encap Dma kind at → right_of units Dma kind at ≡ right_by_bit units.mpu kind at

@@ -1,10 +1,13 @@
-//! Laws of memory protection, from its definitions alone: what a refused access leaves as it is, which accesses can be
-//! refused, what MPULOCK keeps, which address is of which segment, and what the end of a step makes of violations.
+//! Laws of memory protection and of IP Encapsulation, from their definitions alone: what a refused access leaves as it
+//! is, which accesses can be refused, what the locks keep, which address is of which segment or of the area, and what
+//! the end of a step makes of violations.
 //!
 //! The contract of each function is a law. The functions do nothing.
 #![tactic(auto)]
 
+ghost use Rattle.right_laws.specs.Areas.{AreaLiesBetweenBorders, AreasGoByAddresses, SealIsLockedArea};
 ghost use Rattle.right_laws.specs.Ends.{AccessesKeepFlags, NoNotesNoChange, StepsEndByNotes};
+ghost use Rattle.right_laws.specs.Insiders.{AreaRefusesOthers, JumpsInAreAllowed};
 ghost use Rattle.right_laws.specs.Judged.{DisabledRefusesNothing, OnlyFramIsJudged, OthersAreNotJudged};
 ghost use Rattle.right_laws.specs.Locks.{AccessesKeepLocked, BordersStayWhole, LockKeepsRegisters};
 ghost use Rattle.right_laws.specs.Places.{CrossedBordersLeaveNoTwo, InformationIsInfo, SegmentsLieInOrder};
@@ -24,19 +27,19 @@ pub fn refusals_note_alone()
     ensures { RefusalsNoteAlone }
 {}
 
-/// With MPUENA set the processor and DMA have a right in FRAM exactly by its bit of MPUSAM, which is RE, WE or XE of
-/// the address's segment; where it is 0 that segment refuses.
+/// With MPUENA set, an access of the processor or DMA to FRAM that the area leaves to the segments has its right exactly
+/// by its bit of MPUSAM, which is RE, WE or XE of the address's segment; where it is 0 that segment refuses.
 pub fn rights_go_by_bits()
     ensures { RightsGoByBits }
 {}
 
-/// With MPUENA clear no access is refused.
+/// With MPUENA clear no access is refused that the area leaves to the segments, and with MPUIPENA clear too none at all.
 #[tactic(auto, using(crate::proofs::Judging::disabled_refuses_nothing))]
 pub fn disabled_refuses_nothing()
     ensures { DisabledRefusesNothing }
 {}
 
-/// The entry into an interrupt, the debugger and the boot aren't refused any access.
+/// No segment refuses the entry into an interrupt or the debugger an access, and nothing refuses the boot one.
 #[tactic(auto, using(crate::proofs::Judging::others_are_not_judged))]
 pub fn others_are_not_judged()
     ensures { OthersAreNotJudged }
@@ -46,6 +49,38 @@ pub fn others_are_not_judged()
 #[tactic(auto, using(crate::proofs::Judging::only_fram_is_judged))]
 pub fn only_fram_is_judged()
     ensures { OnlyFramIsJudged }
+{}
+
+/// The area refuses every access to it by code outside it, an entry, DMA and the debugger, and reads and writes by code
+/// in its first eight bytes, whatever the segments would say.
+#[tactic(auto, using(crate::proofs::Judging::area_refuses_others))]
+pub fn area_refuses_others()
+    ensures { AreaRefusesOthers }
+{}
+
+/// The area refuses no fetch of an instruction's first word, so all code may jump into it.
+#[tactic(auto, using(crate::proofs::Judging::jumps_in_are_allowed))]
+pub fn jumps_in_are_allowed()
+    ensures { JumpsInAreAllowed }
+{}
+
+/// The area is exactly main FRAM from the first border of the encapsulation up to and without the second, but for FF80h
+/// to FFFFh, where MPUIPENA is set.
+#[tactic(auto, using(crate::proofs::Bounding::area_lies_between_borders))]
+pub fn area_lies_between_borders()
+    ensures { AreaLiesBetweenBorders }
+{}
+
+/// The seal is the area where MPUIPLOCK is set, and holds nothing where it is clear.
+#[tactic(auto, using(crate::proofs::Bounding::seal_is_locked_area))]
+pub fn seal_is_locked_area()
+    ensures { SealIsLockedArea }
+{}
+
+/// Two areas that hold the same addresses are equal, and so are two seals.
+#[tactic(auto, using(crate::proofs::Bounding::areas_go_by_addresses))]
+pub fn areas_go_by_addresses()
+    ensures { AreasGoByAddresses }
 {}
 
 /// Where the first border isn't above the second, segment 1 of main FRAM is all below the first border, segment 2 is
