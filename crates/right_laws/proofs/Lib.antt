@@ -5,3 +5,4 @@ pub mod Locking
 pub mod Refusing
 pub mod Ending
 pub mod Accessing
+pub mod Encapsulating

@@ -4,6 +4,7 @@ pub mod Insiders
 pub mod Judged
 pub mod Places
 pub mod Locks
+pub mod EncapLocks
 pub mod Refusals
 pub mod Ends
 pub mod Rights

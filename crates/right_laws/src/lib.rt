@@ -6,6 +6,7 @@
 #![tactic(auto)]
 
 ghost use Rattle.right_laws.specs.Areas.{AreaLiesBetweenBorders, AreasGoByAddresses, SealIsLockedArea};
+ghost use Rattle.right_laws.specs.EncapLocks.{AccessesKeepEncapsulation, AccessesKeepSecret, AreaBordersStayWhole, LockKeepsEncapsulation};
 ghost use Rattle.right_laws.specs.Ends.{AccessesKeepFlags, NoNotesNoChange, StepsEndByNotes};
 ghost use Rattle.right_laws.specs.Insiders.{AreaRefusesOthers, JumpsInAreAllowed};
 ghost use Rattle.right_laws.specs.Judged.{DisabledRefusesNothing, OnlyFramIsJudged, OthersAreNotJudged};
@@ -114,6 +115,18 @@ pub fn lock_keeps_registers()
     ensures { LockKeepsRegisters }
 {}
 
+/// Borders of the encapsulation are multiples of 64 from power on, whatever a boot installs and the unit goes through.
+#[tactic(auto, using(crate::proofs::Encapsulating::area_borders_stay_whole))]
+pub fn area_borders_stay_whole()
+    ensures { AreaBordersStayWhole }
+{}
+
+/// With MPUIPLOCK set nothing but a BOR changes the registers of the encapsulation, so area and seal stay.
+#[tactic(auto, using(crate::proofs::Encapsulating::lock_keeps_encapsulation))]
+pub fn lock_keeps_encapsulation()
+    ensures { LockKeepsEncapsulation }
+{}
+
 /// The end of a step sets exactly the flags of the places that were noted, asks for exactly the resets of those whose
 /// VS is 1, and for the NMI where one of the others was noted and MPUSEGIE is 1. Nothing is noted behind it, and all
 /// else is as before.
@@ -135,4 +148,17 @@ pub fn accesses_keep_flags()
 /// So no access, by whomever, changes them while MPULOCK is set.
 pub fn accesses_keep_locked()
     ensures { AccessesKeepLocked }
+{}
+
+/// No access, by whomever, changes the registers of the encapsulation or the addresses that stay secret while MPUIPLOCK
+/// is set or the latch is closed, nor where it is to another address than theirs.
+#[tactic(auto, using(crate::proofs::Encapsulating::accesses_keep_encapsulation))]
+pub fn accesses_keep_encapsulation()
+    ensures { AccessesKeepEncapsulation }
+{}
+
+/// The addresses that stay secret change only by an access that sets MPUIPLOCK with MPUIPENA: they are the area then.
+#[tactic(auto, using(crate::proofs::Encapsulating::accesses_keep_secret))]
+pub fn accesses_keep_secret()
+    ensures { AccessesKeepSecret }
 {}
