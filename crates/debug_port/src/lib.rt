@@ -3,6 +3,12 @@
 
 mod answers;
 mod commands;
+mod debugger;
+mod states;
+#[cfg(test)]
+mod tests;
 
 pub use answers::{Answer, Dump};
 pub use commands::Command;
+pub use debugger::command;
+pub use states::{Debug, DebugView};
