@@ -1,3 +1,4 @@
 pub mod Levels
 pub mod Digits
+pub mod DebugLines
 pub mod Lines

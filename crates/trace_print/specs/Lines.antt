@@ -1,12 +1,17 @@
 -- The lines of a trace.
 use Rattle.std.specs.Prelude.{ℕ, ◌^◌, ◌<◌, ◌≤◌, List, ◌++◌, codes, decimal}
 use Rattle.trace_print.specs.declared.items.TraceItem.{TraceItem}
-use Rattle.trace_print.specs.declared.items.TraceItem.TheVariants.{On, Boot, Reset, Dead, Pin, End, Stop}
+use Rattle.trace_print.specs.declared.items.TraceItem.TheVariants.{On, Debug, Halt, Boot, Reset, Dead, Pin, End, Stop}
+use Rattle.debug_port.specs.Commands.{IsAnswer, IsCommand}
+use Rattle.trace_print.specs.DebugLines.{debug_text}
 use Rattle.trace_print.specs.Digits.{hex_digits}
 use Rattle.trace_print.specs.Levels.{letters_of}
 
--- the values that a text has room for: borders of 20 bits, and the ports P1 to P4
+-- the values that a text has room for: those of commands and their answers, a PC and borders of 20 bits, and the ports
+-- P1 to P4
 abbrev pub IsPrintable : TraceItem → Type 0
+IsPrintable (Debug command answer) = IsCommand command × IsAnswer answer
+IsPrintable (Halt pc) = pc < 2 ^ 20
 IsPrintable (Boot control first_border second_border) = (first_border < 2 ^ 20) × (second_border < 2 ^ 20)
 IsPrintable (Pin port levels) = (1 ≤ port) × (port ≤ 4)
 IsPrintable _ = Unit {0}
@@ -19,6 +24,8 @@ boot_text control first_border second_border =
 -- what stands behind the tick
 abbrev pub text_of : TraceItem → List ℕ
 text_of On = codes "ON"
+text_of (Debug command answer) = debug_text command answer
+text_of (Halt pc) = codes "HALT " ++ hex_digits 5 pc
 text_of (Boot control first_border second_border) = boot_text control first_border second_border
 text_of (Reset cause) = codes "RST " ++ hex_digits 2 cause
 text_of Dead = codes "DEAD"

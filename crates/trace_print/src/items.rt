@@ -1,11 +1,16 @@
+use debug_port::{Answer, Command};
 use port_unit::Level;
 
 /// What one line of a trace tells.
-#[derive(Clone, Copy, Debug, Default, PartialEq, Eq)]
+#[derive(Debug, Default, Drop, PartialEq, Eq)]
 pub enum TraceItem {
     /// Power came on.
     #[default]
     On,
+    /// A command of the debugger was carried out or refused, with its answer.
+    Debug(Command, Answer),
+    /// The processor was halted, with its PC.
+    Halt(u32),
     /// A boot ended with these in force: the control bits of IP Encapsulation (MPUIPC0), its first and
     /// its second border as addresses.
     Boot(u8, u32, u32),

@@ -1,6 +1,7 @@
 //! The lines of a trace: what one tick of the chip shows, each item as the text of its line.
 #![tactic(auto)]
 
+mod debug_lines;
 mod items;
 mod levels;
 mod lines;

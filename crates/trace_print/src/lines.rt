@@ -3,6 +3,7 @@ ghost use Rattle.arrayvec.specs.ArrayVec.{array_vec_len};
 ghost use Rattle.trace_print.specs.Levels.{letters_of};
 ghost use Rattle.trace_print.specs.Lines.{IsPrintable, boot_text, line_of, text_of};
 
+use crate::debug_lines::push_debug;
 use crate::items::TraceItem;
 use crate::levels::letter;
 use crate::pieces::{push_decimal, push_hex, push_text};
@@ -31,19 +32,31 @@ fn push_item(line: &mut Line, item: &TraceItem)
     requires printable { IsPrintable item.now }
     requires room { array_vec_len line.old ≤ 11 }
     ensures text { line.new.items ≡ line.old.items ++ text_of item.now }
-    ensures len { array_vec_len line.new ≤ 40 }
+    ensures len { array_vec_len line.new ≤ 100 }
 {
-    match *item {
+    match item {
         TraceItem::On => push_text(line, b"ON"),
+        TraceItem::Debug(command, answer) => push_debug(line, command, answer),
+        TraceItem::Halt(pc) => push_halt(line, *pc),
         TraceItem::Boot(control, first_border, second_border) => {
-            push_boot(line, control, first_border, second_border)
+            push_boot(line, *control, *first_border, *second_border)
         }
-        TraceItem::Reset(cause) => push_reset(line, cause),
+        TraceItem::Reset(cause) => push_reset(line, *cause),
         TraceItem::Dead => push_text(line, b"DEAD"),
-        TraceItem::Pin(port, levels) => push_pin(line, port, &levels),
+        TraceItem::Pin(port, levels) => push_pin(line, *port, levels),
         TraceItem::End => push_text(line, b"END"),
         TraceItem::Stop => push_text(line, b"STOP"),
     }
+}
+
+/// Appends that the processor was halted.
+fn push_halt(line: &mut Line, pc: u32)
+    requires { array_vec_len line.old ≤ 11 }
+    ensures text { line.new.items ≡ line.old.items ++ text_of (TraceItem.Halt pc) }
+    ensures len { array_vec_len line.new ≤ 40 }
+{
+    push_text(line, b"HALT ");
+    push_hex(line, 5, pc);
 }
 
 /// Appends the end of a boot.

@@ -1,7 +1,10 @@
+ghost use Rattle.std.specs.Prelude.{◌≡◌, ◌≤◌, length};
+ghost use Rattle.debug_port.specs.Commands.{IsAnswer, IsCommand};
 ghost use Rattle.trace_print.specs.Lines.{IsPrintable};
 
 use crate::{TraceItem, trace_line};
 use arrayvec::ArrayVec;
+use debug_port::{Answer, Command, Dump};
 use port_unit::Level;
 use std::process::Abort;
 
@@ -42,6 +45,133 @@ fn each_item_has_its_text(rt: HostRuntime) {
     shows(&rt, 7, TraceItem::Stop, "7 STOP\n");
     shows(&rt, 1000, TraceItem::End, "1000 END\n");
     shows(&rt, 4_294_967_295, TraceItem::End, "4294967295 END\n");
+}
+
+/// The answer that has these bytes.
+fn bytes(list: &[u8]) -> Answer
+    requires { length list.now ≤ 32 }
+    ensures { IsAnswer result }
+{
+    let mut bytes = ArrayVec::new();
+    bytes.try_extend_from_slice(list).unwrap();
+    Answer::Bytes(Dump::new(bytes))
+}
+
+/// Compares the line of a command in tick 12 with its text.
+fn tells(rt: &impl Abort, command: Command, answer: Answer, text: &str)
+    requires command { IsCommand command }
+    requires answer { IsAnswer answer }
+{
+    shows(rt, 12, TraceItem::Debug(command, answer), text);
+}
+
+#[test]
+fn commands_on_memory_have_their_texts(rt: HostRuntime) {
+    tells(
+        &rt,
+        Command::Read(0x4900),
+        Answer::Value(0x3FFF),
+        "12 DBG read 04900 3FFF\n",
+    );
+    tells(
+        &rt,
+        Command::Read(0x5A3),
+        Answer::Value(0x10),
+        "12 DBG read 005A3 0010\n",
+    );
+    tells(
+        &rt,
+        Command::Write(0x4500, 0x1234),
+        Answer::Accepted,
+        "12 DBG write 04500 ok\n",
+    );
+    tells(
+        &rt,
+        Command::Dump(0x4400, 2),
+        bytes(&[0x92, 0xC3]),
+        "12 DBG dump 04400 92C3\n",
+    );
+    tells(
+        &rt,
+        Command::Dump(0xFFFFF, 1),
+        bytes(&[0x0F]),
+        "12 DBG dump FFFFF 0F\n",
+    );
+}
+
+#[test]
+fn commands_to_the_processor_have_their_texts(rt: HostRuntime) {
+    tells(
+        &rt,
+        Command::Reg(4),
+        Answer::Register(0x12345),
+        "12 DBG reg 4 12345\n",
+    );
+    tells(
+        &rt,
+        Command::Reg(15),
+        Answer::Register(0xA),
+        "12 DBG reg 15 0000A\n",
+    );
+    tells(
+        &rt,
+        Command::SetReg(4, 0x12345),
+        Answer::Accepted,
+        "12 DBG setreg 4 ok\n",
+    );
+    tells(&rt, Command::Go, Answer::Accepted, "12 DBG go ok\n");
+    tells(&rt, Command::Reset, Answer::Accepted, "12 DBG reset ok\n");
+    tells(&rt, Command::Erase, Answer::Accepted, "12 DBG erase ok\n");
+    shows(&rt, 12, TraceItem::Halt(0x4400), "12 HALT 04400\n");
+    shows(&rt, 12, TraceItem::Halt(0xFABCE), "12 HALT FABCE\n");
+}
+
+#[test]
+fn a_refusal_stands_in_place_of_the_answer(rt: HostRuntime) {
+    tells(&rt, Command::Halt, Answer::Booting, "12 DBG halt booting\n");
+    tells(&rt, Command::Halt, Answer::Closed, "12 DBG halt closed\n");
+    tells(
+        &rt,
+        Command::Read(0x4400),
+        Answer::Booting,
+        "12 DBG read 04400 booting\n",
+    );
+    tells(
+        &rt,
+        Command::Dump(0x4400, 32),
+        Answer::Closed,
+        "12 DBG dump 04400 closed\n",
+    );
+    tells(
+        &rt,
+        Command::Reg(4),
+        Answer::Running,
+        "12 DBG reg 4 running\n",
+    );
+    tells(
+        &rt,
+        Command::SetReg(10, 0xFFFFF),
+        Answer::Running,
+        "12 DBG setreg 10 running\n",
+    );
+}
+
+/// No line is longer.
+#[test]
+fn the_longest_dump_has_its_text(rt: HostRuntime) {
+    let list = bytes(&[
+        0x00, 0x01, 0x12, 0x23, 0x34, 0x45, 0x56, 0x67, 0x78, 0x89, 0x9A, 0xAB, 0xBC, 0xCD, 0xDE,
+        0xEF, 0xFF, 0xFE, 0xED, 0xDC, 0xCB, 0xBA, 0xA9, 0x98, 0x87, 0x76, 0x65, 0x54, 0x43, 0x32,
+        0x21, 0x10,
+    ]);
+    let text =
+        "4294967295 DBG dump 04401 000112233445566778899AABBCCDDEEFFFFEEDDCCBBAA9988776655443322110\n";
+    shows(
+        &rt,
+        4_294_967_295,
+        TraceItem::Debug(Command::Dump(0x4401, 32), list),
+        text,
+    );
 }
 
 /// A tick keeps its items in a list of fixed room, which is emptied before the next.
