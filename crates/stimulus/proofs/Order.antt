@@ -9,7 +9,7 @@ use Rattle.std.proofs.lemmas.List.Sorted.{IsNonDecreasingBy-push, IsNonDecreasin
 use Rattle.std.specs.List.{list_all}
 use Rattle.std.specs.List.Sorted.{IsNonDecreasingBy}
 use Rattle.stimulus.specs.declared.events.Event.{Event}
-use Rattle.stimulus.specs.Events.{IsPinEvent, may_follow, most_on_tick, none_after, on_tick}
+use Rattle.stimulus.specs.Events.{IsEvent, may_follow, most_on_tick, none_after, on_tick}
 use Rattle.stimulus.specs.Stimulus.{IsBench, Stimulus, greatest_end, with_event}
 
 -- among events whose ticks don't fall, none is after a tick exactly where the last one isn't
@@ -48,9 +48,9 @@ few_on_tick-push events event tick room few =
     ])
 
 -- an event that may follow makes a bench of a bench
-pub IsBench-push : (bench : Stimulus) (event : Event) → IsBench bench → IsTrue (may_follow bench.events event) → event.tick < bench.end → IsPinEvent event → IsBench (with_event bench event)
+pub IsBench-push : (bench : Stimulus) (event : Event) → IsBench bench → IsTrue (may_follow bench.events event) → event.tick < bench.end → IsEvent event → IsBench (with_event bench event)
 unfolding may_follow none_after
-IsBench-push bench event known follows before on_pin =
+IsBench-push bench event known follows before is_event =
     let (none_later, room) = and_parts (list_all (λ (earlier : Event). nat_le earlier.tick event.tick) bench.events) (nat_lt (length (on_tick event.tick bench.events)) most_on_tick) follows in
     let has_room : length (on_tick event.tick bench.events) < most_on_tick = grind (arith, nat_tests) in
     record {
@@ -60,13 +60,13 @@ IsBench-push bench event known follows before on_pin =
       in_order = IsNonDecreasingBy-push (λ (event : Event). event.tick) bench.events event known.in_order (λ d some. leb-true _ _ (AllPass-from_list_all _ bench.events none_later (length bench.events - 1) d (omega arith)));
       few_on_tick = λ tick. few_on_tick-push bench.events event tick has_room (known.few_on_tick tick);
       before_end = All-push (λ (event : Event). event.tick < bench.end) bench.events event known.before_end before;
-      on_pins = All-push IsPinEvent bench.events event known.on_pins on_pin;
+      in_range = All-push IsEvent bench.events event known.in_range is_event;
     }
 
 -- the same of a push that may find no memory
-pub IsBench-pushed : (bench : Stimulus) (event : Event) (pushed : Bool) (events : List Event) → IsBench bench → IsTrue (may_follow bench.events event) → event.tick < bench.end → IsPinEvent event → events ≡ cond pushed (bench.events ++ event ∷ []) bench.events → IsBench (record bench { events = events })
-IsBench-pushed bench event true events known follows before on_pin e = rw e (IsBench-push bench event known follows before on_pin)
-IsBench-pushed bench event false events known follows before on_pin e = rw e known
+pub IsBench-pushed : (bench : Stimulus) (event : Event) (pushed : Bool) (events : List Event) → IsBench bench → IsTrue (may_follow bench.events event) → event.tick < bench.end → IsEvent event → events ≡ cond pushed (bench.events ++ event ∷ []) bench.events → IsBench (record bench { events = events })
+IsBench-pushed bench event true events known follows before is_event e = rw e (IsBench-push bench event known follows before is_event)
+IsBench-pushed bench event false events known follows before is_event e = rw e known
 
 -- a bench with no event
 pub IsBench-plain : (end fill : ℕ) (events : List Event) → 1 ≤ end → end ≤ greatest_end → fill < 256 → events ≡ [] → IsBench (record { end = end; fill = fill; events = events })
@@ -78,5 +78,5 @@ IsBench-plain end fill events some few byte e = rw e (record {
   in_order = IsNonDecreasingBy-short _ [] (omega arith);
   few_on_tick = λ tick. omega arith;
   before_end = All-nil _;
-  on_pins = All-nil _;
+  in_range = All-nil _;
 })

@@ -4,8 +4,10 @@ use Rattle.std.specs.List.{list_all}
 use Rattle.toml.specs.Data.{Data, Members, as_str, as_table, get_member}
 use Rattle.stimulus.specs.declared.events.Event.{Event}
 use Rattle.stimulus.specs.declared.events.EventAct.{EventAct}
-use Rattle.stimulus.specs.declared.events.EventAct.TheVariants.{Pin}
+use Rattle.stimulus.specs.declared.events.EventAct.TheVariants.{Pin, Debug}
+use Rattle.stimulus.specs.Commands.{command_in}
 use Rattle.stimulus.specs.Toml.{has_key_beside, number_at}
+use Rattle.debug_port.specs.Commands.{IsCommand}
 
 -- the first port and the last, and the highest bit of a port
 abbrev pub first_port : ℕ
@@ -21,12 +23,13 @@ last_bit = 7
 abbrev pub IsPin : ℕ → ℕ → Type 0
 IsPin port bit = (first_port ≤ port) × (port ≤ last_port) × (bit ≤ last_bit)
 
-abbrev pub IsPinAct : EventAct → Type 0
-IsPinAct (Pin port bit level) = IsPin port bit
+-- what comes to the chip is within its ranges: a pin that there is, or a command within those of the debugger
+abbrev pub IsAct : EventAct → Type 0
+IsAct (Pin port bit level) = IsPin port bit
+IsAct (Debug command) = IsCommand command
 
--- an event comes to a pin that there is
-abbrev pub IsPinEvent : Event → Type 0
-IsPinEvent event = IsPinAct event.act
+abbrev pub IsEvent : Event → Type 0
+IsEvent event = IsAct event.act
 
 -- what a name of a pin is made of
 abbrev pub letter_p : ℕ
@@ -50,13 +53,9 @@ pin_named (letter ∷ port ∷ separator ∷ bit ∷ []) =
     else None
 pin_named _ = None
 
--- the keys of an event
-abbrev pub event_keys : List (List ℕ)
-event_keys = codes "tick" ∷ codes "pin" ∷ codes "level" ∷ []
-
--- what an event has at each of them
-abbrev pub tick_in : ℕ → Members → Option ℕ
-tick_in end all = number_at (codes "tick") 0 (end - 1) all
+-- the keys of an event that sets a level on a pin, and what such an event has at each of them
+abbrev pub pin_keys : List (List ℕ)
+pin_keys = codes "tick" ∷ codes "pin" ∷ codes "level" ∷ []
 
 abbrev pub pin_in : Members → Option (ℕ × ℕ)
 pin_in all = option_and_then pin_named (option_and_then as_str (get_member (codes "pin") all))
@@ -64,18 +63,37 @@ pin_in all = option_and_then pin_named (option_and_then as_str (get_member (code
 abbrev pub level_in : Members → Option Bool
 level_in all = option_map (λ level. level == 1) (number_at (codes "level") 0 1 all)
 
--- the event of a tick, a pin and a level, where there are all three
-abbrev pub event_with : Option ℕ → Option (ℕ × ℕ) → Option Bool → Option Event
-event_with None pin level = None
-event_with (Some tick) None level = None
-event_with (Some tick) (Some pin) None = None
-event_with (Some tick) (Some pin) (Some level) = Some (record { tick = tick; act = Pin pin.0 pin.1 level })
+-- the level on a pin, where there are both
+abbrev pub pin_act_with : Option (ℕ × ℕ) → Option Bool → Option EventAct
+pin_act_with None level = None
+pin_act_with (Some pin) None = None
+pin_act_with (Some pin) (Some level) = Some (Pin pin.0 pin.1 level)
 
--- the event that a table is, on a bench with this end: it has just the three keys
-unfoldable pub event_in : ℕ → Members → Option Event
-event_in end all =
-    if has_key_beside event_keys all then None
-    else event_with (tick_in end all) (pin_in all) (level_in all)
+-- the level on a pin that a table is: it has just the three keys
+unfoldable pub pin_act_in : Members → Option EventAct
+pin_act_in all = if has_key_beside pin_keys all then None else pin_act_with (pin_in all) (level_in all)
+
+-- what a table brings: a command of the debugger where a value stands at `debug`, and else a level on a pin
+abbrev pub act_with : Option Data → Members → Option EventAct
+act_with (Some debug) all = option_map Debug (command_in debug all)
+act_with None all = pin_act_in all
+
+abbrev pub act_in : Members → Option EventAct
+act_in all = act_with (get_member (codes "debug") all) all
+
+-- the tick of an event on a bench with this end
+abbrev pub tick_in : ℕ → Members → Option ℕ
+tick_in end all = number_at (codes "tick") 0 (end - 1) all
+
+-- the event of a tick and an act, where there are both
+abbrev pub event_with : Option ℕ → Option EventAct → Option Event
+event_with None act = None
+event_with (Some tick) None = None
+event_with (Some tick) (Some act) = Some (record { tick = tick; act = act })
+
+-- the event that a table is, on a bench with this end
+abbrev pub event_in : ℕ → Members → Option Event
+event_in end all = event_with (tick_in end all) (act_in all)
 
 abbrev pub event_of : ℕ → Data → Option Event
 event_of end value = option_and_then (event_in end) (as_table value)

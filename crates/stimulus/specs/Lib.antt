@@ -1,4 +1,5 @@
 pub mod Toml
+pub mod Commands
 pub mod Events
 pub mod Stimulus
 pub mod Powers

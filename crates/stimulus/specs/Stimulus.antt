@@ -13,7 +13,7 @@ use Rattle.stimulus.specs.declared.refusals.BenchError.TheVariants.{Refused}
 use Rattle.stimulus.specs.declared.refusals.RootField.{RootField}
 use Rattle.stimulus.specs.declared.refusals.RootField.TheVariants as field
 use Rattle.stimulus.specs.Toml.{has_key_beside, number_at, number_within, values_of}
-use Rattle.stimulus.specs.Events.{IsPinEvent, breaks_rule, event_of, most_on_tick, on_tick}
+use Rattle.stimulus.specs.Events.{IsEvent, breaks_rule, event_of, most_on_tick, on_tick}
 
 -- what a bench does to a chip: how many ticks the run has, which byte SRAM is filled with, and the events
 -- in the order of the file
@@ -34,7 +34,8 @@ most_events = 10000
 abbrev pub with_event : Stimulus → Event → Stimulus
 with_event bench event = record bench { events = bench.events ++ event ∷ [] }
 
--- what holds of every bench: ticks don't fall, few events share one, and each comes before the end
+-- what holds of every bench: ticks don't fall, few events share one, and each comes before the end and is within its
+-- ranges
 pub record IsBench (bench : Stimulus) : Type 0 where
   pub some_ticks : 1 ≤ bench.end
   pub few_ticks : bench.end ≤ greatest_end
@@ -42,7 +43,7 @@ pub record IsBench (bench : Stimulus) : Type 0 where
   pub in_order : IsNonDecreasingBy (λ event. event.tick) bench.events
   pub few_on_tick : (tick : ℕ) → length (on_tick tick bench.events) ≤ most_on_tick
   pub before_end : All (λ event. event.tick < bench.end) bench.events
-  pub on_pins : All IsPinEvent bench.events
+  pub in_range : All IsEvent bench.events
 
 -- the keys of the root
 abbrev pub root_keys : List (List ℕ)

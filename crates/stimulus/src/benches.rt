@@ -1,5 +1,5 @@
 ghost use Rattle.std.specs.Prelude.{◌≡◌, ◌≤◌, ◌<◌, [], All, IsTrue, OnErr, OnOk, length};
-ghost use Rattle.stimulus.specs.Events.{IsPinEvent, may_follow, most_on_tick, on_tick};
+ghost use Rattle.stimulus.specs.Events.{IsEvent, may_follow, most_on_tick, on_tick};
 ghost use Rattle.stimulus.specs.Powers.{power_at};
 ghost use Rattle.stimulus.specs.Stimulus.{IsBench, greatest_end, with_event};
 
@@ -71,7 +71,7 @@ impl Bench {
     pub fn events(&self, tick: u32) -> &[Event]
         ensures events { result.now ≡ on_tick tick self.now.events }
         ensures few { length result.now ≤ most_on_tick }
-        ensures pins { All IsPinEvent result.now }
+        ensures in_range { All IsEvent result.now }
     {
         events_on_tick(&self.events, tick)
     }
@@ -87,7 +87,7 @@ impl Bench {
     pub(crate) fn add(&mut self, event: Event) -> Result<(), NoMemory>
         requires follows { IsTrue (may_follow self.old.events event) }
         requires before_end { event.tick < self.old.end }
-        requires on_pin { IsPinEvent event }
+        requires in_range { IsEvent event }
         ensures ok { OnOk result (self.new ≡ with_event self.old event) }
         ensures err { OnErr result (self.new ≡ self.old) }
     {

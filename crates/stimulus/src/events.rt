@@ -3,11 +3,15 @@ ghost use Rattle.std.specs.List.{AllWithin};
 ghost use Rattle.std.specs.List.Sorted.{IsNonDecreasingBy};
 ghost use Rattle.stimulus.specs.Events.{none_after, on_tick};
 
+use debug_port::Command;
+
 /// What comes to the chip from outside.
 #[derive(Clone, Copy, Debug, PartialEq, Eq)]
 pub enum EventAct {
     /// A level on a pin: the port, from 1 to 4, its bit, from 0 to 7, and whether it is high.
     Pin(u8, u8, bool),
+    /// A command of the debugger, with addresses, values and counts in the ranges that `Command` tells.
+    Debug(Command),
 }
 
 /// Something that comes to the chip in one tick.

@@ -1,10 +1,11 @@
 //! The bench that a firmware writer gives: how long a run is, what SRAM is filled with, and what
-//! comes to the pins at which tick.
+//! comes to the pins and from the debugger at which tick.
 //!
 //! A bench is a TOML document of the format in `docs/BENCH.md`.
 #![tactic(auto)]
 
 mod benches;
+mod commands;
 mod events;
 mod powers;
 mod reading;

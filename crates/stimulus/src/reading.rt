@@ -1,9 +1,10 @@
 ghost use Rattle.std.specs.Prelude.{◌≡◌, ◌≢◌, ◌<◌, ◌≤◌, IfSome, IsTrue, length, map, option_map};
-ghost use Rattle.stimulus.specs.Events.{IsPin, IsPinEvent, event_in, event_of, may_follow, next_event, pin_in, pin_named};
+ghost use Rattle.stimulus.specs.Events.{IsAct, IsEvent, IsPin, act_in, event_in, event_of, may_follow, next_event, pin_act_in, pin_in, pin_named};
 ghost use Rattle.stimulus.specs.Stimulus.{bench_in, bench_of_file, bench_with, fill_in, greatest_end, most_events, values_in, with_error};
 ghost use Rattle.toml.specs.View.{table_view, view};
 
 use crate::benches::Bench;
+use crate::commands::command_in;
 use crate::events::{Event, EventAct};
 use crate::refusals::{BenchError, BenchRefused, RootField};
 use crate::trees::{has_key_beside, number_at, number_within, value_at};
@@ -31,24 +32,41 @@ fn pin_in(event: &Table) -> Option<(u8, u8)>
     pin_named(value_at(event, "pin")?.as_str()?)
 }
 
+/// The level on a pin that a table is, if it is one.
+#[tactic(auto, unfolding(crate::specs::Events::pin_act_in))]
+fn pin_act_in(event: &Table) -> Option<EventAct>
+    ensures act { result ≡ pin_act_in (table_view event.now) }
+    ensures in_range { IfSome result IsAct }
+{
+    if has_key_beside(event, &["tick", "pin", "level"]) {
+        return None;
+    }
+    let (port, bit) = pin_in(event)?;
+    let level = number_at(event, "level", 0, 1)?;
+    Some(EventAct::Pin(port, bit, level == 1))
+}
+
+/// What a table brings, if it is an event.
+fn act_in(event: &Table) -> Option<EventAct>
+    ensures act { result ≡ act_in (table_view event.now) }
+    ensures in_range { IfSome result IsAct }
+{
+    match value_at(event, "debug") {
+        Some(debug) => Some(EventAct::Debug(command_in(debug, event)?)),
+        None => pin_act_in(event),
+    }
+}
+
 /// The event that a table is, if it is one of a bench with this end.
-#[tactic(auto, unfolding(crate::specs::Events::event_in))]
 fn event_in(table: &Table, end: u32) -> Option<Event>
     requires { 1 ≤ end }
     ensures event { result ≡ event_in end (table_view table.now) }
     ensures before_end { IfSome result (λ event. event.tick < end) }
-    ensures on_pin { IfSome result IsPinEvent }
+    ensures in_range { IfSome result IsEvent }
 {
-    if has_key_beside(table, &["tick", "pin", "level"]) {
-        return None;
-    }
     let tick = number_at(table, "tick", 0, end - 1)?;
-    let (port, bit) = pin_in(table)?;
-    let level = number_at(table, "level", 0, 1)?;
-    Some(Event {
-        tick,
-        act: EventAct::Pin(port, bit, level == 1),
-    })
+    let act = act_in(table)?;
+    Some(Event { tick, act })
 }
 
 /// The event that a value is, if it is one of a bench with this end.
@@ -56,7 +74,7 @@ fn event_of(value: &Value, end: u32) -> Option<Event>
     requires { 1 ≤ end }
     ensures event { result ≡ event_of end (view value.now) }
     ensures before_end { IfSome result (λ event. event.tick < end) }
-    ensures on_pin { IfSome result IsPinEvent }
+    ensures in_range { IfSome result IsEvent }
 {
     event_in(value.as_table()?, end)
 }
@@ -66,7 +84,7 @@ fn next_event(bench: &Bench, value: &Value) -> Option<Event>
     ensures event { result ≡ next_event bench.now.end bench.now.events (view value.now) }
     ensures follows { IfSome result (λ event. IsTrue (may_follow bench.now.events event)) }
     ensures before_end { IfSome result (λ event. event.tick < bench.now.end) }
-    ensures on_pin { IfSome result IsPinEvent }
+    ensures in_range { IfSome result IsEvent }
 {
     let event = event_of(value, bench.end())?;
     if bench.may_add(event) {

@@ -1,4 +1,5 @@
 use crate::{Bench, BenchError, BenchRefused, Event, EventAct, Power, RootField, read_bench};
+use debug_port::Command;
 use std::alloc::Global;
 use std::test::Fail;
 
@@ -121,14 +122,28 @@ fn refuses_each_other_type(rt: HostRuntime) -> Result<(), Fail> {
             assert_eq!(rt; refusal(alloc, text.as_bytes()), want, "{key} = {other}");
         }
     }
-    let event = [("tick", "24"), ("pin", "\"P1.3\""), ("level", "1")];
-    for (key, _) in event {
-        for other in others {
-            let mut text = String::from_str(alloc, ROOT)?;
-            text.push_str("[[event]]\n")?;
-            text.push_str(lines_with(alloc, &event, key, other)?.as_str())?;
-            let want = Some(BenchError::Refused(BenchRefused::Event(0)));
-            assert_eq!(rt; refusal(alloc, text.as_bytes()), want, "{key} = {other}");
+    let pin = [("tick", "24"), ("pin", "\"P1.3\""), ("level", "1")];
+    let dump = [
+        ("debug", "\"dump\""),
+        ("tick", "24"),
+        ("at", "1"),
+        ("count", "1"),
+    ];
+    let setreg = [
+        ("debug", "\"setreg\""),
+        ("tick", "24"),
+        ("reg", "1"),
+        ("value", "1"),
+    ];
+    for event in [pin.as_slice(), dump.as_slice(), setreg.as_slice()] {
+        for (key, _) in event {
+            for other in others {
+                let mut text = String::from_str(alloc, ROOT)?;
+                text.push_str("[[event]]\n")?;
+                text.push_str(lines_with(alloc, event, key, other)?.as_str())?;
+                let want = Some(BenchError::Refused(BenchRefused::Event(0)));
+                assert_eq!(rt; refusal(alloc, text.as_bytes()), want, "{key} = {other}");
+            }
         }
     }
     Ok(())
@@ -181,7 +196,7 @@ fn refuses_the_first_event_that_breaks_a_rule(rt: HostRuntime) -> Result<(), Fai
             "another key",
             "tick = 24\npin = \"P1.3\"\nlevel = 1\nport = 1",
         ),
-        ("a command", "tick = 24\ndebug = \"halt\""),
+        ("a command without a tick", "debug = \"halt\""),
         ("nothing", ""),
     ];
     for (name, event) in cases {
@@ -190,6 +205,60 @@ fn refuses_the_first_event_that_breaks_a_rule(rt: HostRuntime) -> Result<(), Fai
         text.push_str(event)?;
         let want = Some(BenchError::Refused(BenchRefused::Event(1)));
         assert_eq!(rt; refusal(rt.alloc(), text.as_bytes()), want, "{name}");
+    }
+    Ok(())
+}
+
+/// A bench whose one event comes at tick 24 and has these keys beside it.
+fn with_event(alloc: Global, keys: &str) -> Result<String, Fail> {
+    Ok(format!(in alloc; "{ROOT}event = [{{ tick = 24, {keys} }}]")?)
+}
+
+#[test]
+fn refuses_each_command_that_breaks_a_rule(rt: HostRuntime) -> Result<(), Fail> {
+    for keys in [
+        "debug = 'read'",
+        "debug = 'read', at = -1",
+        "debug = 'read', at = 1048576",
+        "debug = 'read', at = 1, count = 1",
+        "debug = 'write', value = 1",
+        "debug = 'write', at = 1",
+        "debug = 'write', at = 1048576, value = 1",
+        "debug = 'write', at = 1, value = -1",
+        "debug = 'write', at = 1, value = 65536",
+        "debug = 'write', at = 1, value = 1, count = 1",
+        "debug = 'dump', count = 1",
+        "debug = 'dump', at = 1",
+        "debug = 'dump', at = 1048576, count = 1",
+        "debug = 'dump', at = 1, count = 0",
+        "debug = 'dump', at = 1, count = 33",
+        "debug = 'dump', at = 1, count = 1, value = 1",
+        "debug = 'reg'",
+        "debug = 'reg', reg = -1",
+        "debug = 'reg', reg = 16",
+        "debug = 'reg', reg = 1, value = 1",
+        "debug = 'setreg', value = 1",
+        "debug = 'setreg', reg = 1",
+        "debug = 'setreg', reg = 16, value = 1",
+        "debug = 'setreg', reg = 1, value = -1",
+        "debug = 'setreg', reg = 1, value = 1048576",
+        "debug = 'setreg', reg = 1, value = 1, at = 1",
+        "debug = 'halt', at = 1",
+        "debug = 'go', reg = 1",
+        "debug = 'reset', value = 1",
+        "debug = 'erase'",
+        "debug = 'step'",
+        "debug = ''",
+        "debug = 'Halt'",
+        "debug = 'halted'",
+        "debug = 'halt', pin = 'P1.3', level = 1",
+        "debug = 'halt', level = 1",
+        "pin = 'P1.3', level = 1, at = 1",
+        "at = 1",
+    ] {
+        let text = with_event(rt.alloc(), keys)?;
+        let want = Some(BenchError::Refused(BenchRefused::Event(0)));
+        assert_eq!(rt; refusal(rt.alloc(), text.as_bytes()), want, "{keys}");
     }
     Ok(())
 }
@@ -228,6 +297,13 @@ fn pin(tick: u32, port: u8, bit: u8, level: bool) -> Event {
     Event {
         tick,
         act: EventAct::Pin(port, bit, level),
+    }
+}
+
+fn debug(tick: u32, command: Command) -> Event {
+    Event {
+        tick,
+        act: EventAct::Debug(command),
     }
 }
 
@@ -273,6 +349,68 @@ fn reads_a_bench(rt: HostRuntime) -> Result<(), Fail> {
     assert_eq!(rt; (plain.end(), plain.fill()), (1, 255));
     assert_eq!(rt; plain.events(0), [].as_slice());
     assert_eq!(rt; plain.power(0), Power::On);
+    Ok(())
+}
+
+#[test]
+fn reads_each_command(rt: HostRuntime) -> Result<(), Fail> {
+    for (keys, want) in [
+        ("debug = 'read', at = 0", Command::Read(0)),
+        ("at = 1048575, debug = 'read'", Command::Read(0xF_FFFF)),
+        (
+            "debug = 'write', at = 0, value = 65535",
+            Command::Write(0, 0xFFFF),
+        ),
+        (
+            "value = 0, at = 1048575, debug = 'write'",
+            Command::Write(0xF_FFFF, 0),
+        ),
+        ("debug = 'dump', at = 0, count = 32", Command::Dump(0, 32)),
+        (
+            "count = 1, at = 1048575, debug = 'dump'",
+            Command::Dump(0xF_FFFF, 1),
+        ),
+        ("debug = 'reg', reg = 0", Command::Reg(0)),
+        ("reg = 15, debug = 'reg'", Command::Reg(15)),
+        (
+            "debug = 'setreg', reg = 0, value = 1048575",
+            Command::SetReg(0, 0xF_FFFF),
+        ),
+        (
+            "value = 0, reg = 15, debug = 'setreg'",
+            Command::SetReg(15, 0),
+        ),
+        ("debug = 'halt'", Command::Halt),
+        ("debug = 'go'", Command::Go),
+        ("debug = 'reset'", Command::Reset),
+    ] {
+        let text = with_event(rt.alloc(), keys)?;
+        let bench = read_bench(rt.alloc(), text.as_bytes())?;
+        assert_eq!(rt; bench.events(24), [debug(24, want)].as_slice(), "{keys}");
+    }
+    Ok(())
+}
+
+#[test]
+fn reads_commands_among_levels(rt: HostRuntime) -> Result<(), Fail> {
+    let text = "
+        version = 1
+        end = 30
+        event = [
+            { tick = 0, debug = 'halt' },
+            { tick = 20, debug = 'setreg', reg = 4, value = 0x12345 },
+            { tick = 20, pin = 'P1.3', level = 1 },
+            { tick = 20, debug = 'write', at = 0x4500, value = 0x1234 },
+        ]
+    ";
+    let bench = read_bench(rt.alloc(), text.as_bytes())?;
+    assert_eq!(rt; bench.events(0), [debug(0, Command::Halt)].as_slice());
+    let want = [
+        debug(20, Command::SetReg(4, 0x1_2345)),
+        pin(20, 1, 3, true),
+        debug(20, Command::Write(0x4500, 0x1234)),
+    ];
+    assert_eq!(rt; bench.events(20), want.as_slice());
     Ok(())
 }
 

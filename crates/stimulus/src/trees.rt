@@ -15,7 +15,8 @@ pub fn value_at<'a>(table: &'a Table, key: &str) -> Option<&'a Value>
 /// An integer, if it lies from `low` up to and with `high`.
 fn integer_within(integer: i64, low: u32, high: u32) -> Option<u32>
     ensures number { result ≡ integer_within low high integer }
-    ensures bound { IfSome result (λ number. number ≤ high) }
+    ensures at_least { IfSome result (λ number. low ≤ number) }
+    ensures at_most { IfSome result (λ number. number ≤ high) }
 {
     let number = u32::try_from(integer).ok()?;
     if low <= number && number <= high {
@@ -28,7 +29,8 @@ fn integer_within(integer: i64, low: u32, high: u32) -> Option<u32>
 /// A value's integer, if it is one and lies from `low` up to and with `high`.
 pub fn number_within(value: &Value, low: u32, high: u32) -> Option<u32>
     ensures number { result ≡ number_within low high (view value.now) }
-    ensures bound { IfSome result (λ number. number ≤ high) }
+    ensures at_least { IfSome result (λ number. low ≤ number) }
+    ensures at_most { IfSome result (λ number. number ≤ high) }
 {
     integer_within(value.as_integer()?, low, high)
 }
@@ -36,7 +38,8 @@ pub fn number_within(value: &Value, low: u32, high: u32) -> Option<u32>
 /// The integer from `low` up to and with `high` that a table has at a key.
 pub fn number_at(table: &Table, key: &str, low: u32, high: u32) -> Option<u32>
     ensures number { result ≡ number_at key.now low high (table_view table.now) }
-    ensures bound { IfSome result (λ number. number ≤ high) }
+    ensures at_least { IfSome result (λ number. low ≤ number) }
+    ensures at_most { IfSome result (λ number. number ≤ high) }
 {
     number_within(value_at(table, key)?, low, high)
 }
