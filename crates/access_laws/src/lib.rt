@@ -1,0 +1,40 @@
+//! Laws of accesses around a seal, from their definitions alone: what code outside the seal sees and changes, and what
+//! code inside it does to the rest of the chip.
+//!
+//! The contract of each function is a law. The functions do nothing.
+#![tactic(auto)]
+
+ghost use Rattle.access_laws.specs.Boots.{BootSeesPublic, OpenedTellsAll};
+ghost use Rattle.access_laws.specs.Locality.{InsideIsHidden, InsideSeesPublic, OutsideSeesPublic};
+
+/// What an access by an entry, DMA, the debugger or code outside the seal answers and changes goes by the public part
+/// alone: no byte of the seal reaches it.
+#[tactic(auto, using(crate::proofs::Outside::outside_sees_public))]
+pub fn outside_sees_public()
+    ensures { OutsideSeesPublic }
+{}
+
+/// What an access by an entry or by code inside the seal to an address outside it answers and changes goes by the
+/// public part alone, wherever in the seal the code stands.
+#[tactic(auto, using(crate::proofs::Inside::inside_sees_public))]
+pub fn inside_sees_public()
+    ensures { InsideSeesPublic }
+{}
+
+/// An access by an entry or by code inside the seal to an address of the seal changes nothing that is public.
+#[tactic(auto, using(crate::proofs::Inside::inside_is_hidden))]
+pub fn inside_is_hidden()
+    ensures { InsideIsHidden }
+{}
+
+/// What an access of the boot changes goes by the public part alone, and so does its answer where it isn't one of the
+/// bytes that stay secret.
+pub fn boot_sees_public()
+    ensures { BootSeesPublic }
+{}
+
+/// Where other addresses stay secret, what was shown and the bytes that are opened tell all that is shown then.
+#[tactic(auto, using(crate::proofs::Opening::opened_tells_all))]
+pub fn opened_tells_all()
+    ensures { OpenedTellsAll }
+{}
