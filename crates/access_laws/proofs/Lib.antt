@@ -3,5 +3,9 @@ pub mod Courses
 pub mod Seen
 pub mod Outside
 pub mod Inside
+pub mod Staying
+pub mod Replaying
+pub mod Settling
+pub mod Stepping
 pub mod Booting
 pub mod Opening

@@ -1,3 +1,4 @@
 pub mod Locality
 pub mod Replay
+pub mod Steps
 pub mod Boots

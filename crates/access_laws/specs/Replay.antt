@@ -1,5 +1,5 @@
--- What a step from inside the seal releases, and what its releases make of the public part.
-use Rattle.std.specs.Prelude.{ℕ, ◌&&◌, not, Bool, List, filter, fold, map}
+-- What a step from inside the seal releases, and that its releases alone change the public part.
+use Rattle.std.specs.Prelude.{◌≡◌, ℕ, ◌&&◌, not, Bool, List, [], filter, fold, map}
 use Rattle.chip_words.specs.declared.accesses.Access.{Access}
 use Rattle.chip_words.specs.declared.accesses.Agent.{Agent}
 use Rattle.chip_words.specs.declared.accesses.Agent.TheVariants.{Cpu}
@@ -8,7 +8,8 @@ use Rattle.chip_words.specs.declared.accesses.Kind.TheVariants.{Write}
 use Rattle.chip_words.specs.declared.seals.Seal.{Seal}
 use Rattle.chip_words.specs.Access.{access_present}
 use Rattle.chip_words.specs.BusPart.{BusPart}
-use Rattle.chip_words.specs.Public.{public_part}
+use Rattle.chip_words.specs.Public.{IsInside, IsLocked, public_part}
+use Rattle.chip_words.specs.Script.{Script, run}
 use Rattle.chip_words.specs.Seals.{is_in}
 
 -- an access is released: it is to an address outside the seal, and isn't absent
@@ -46,3 +47,12 @@ replayed who part access =
 -- the public part behind releases, of which the first comes first
 abbrev pub replay : Agent → BusPart → List Access → BusPart
 replay who part releases = fold (replayed who) part releases
+
+-- Whatever step is made from inside the seal, the public part behind it is what its releases make of the public part
+-- before it. So a private step does nothing to the public part that its releases don't tell.
+abbrev pub PrivateStepIsReplayed : Type 0
+PrivateStepIsReplayed =
+    (who : Agent) (step : Script (List ℕ)) (part : BusPart) →
+    IsLocked part → IsInside (part.units).encap who → part.accesses ≡ [] →
+    public_part (run who step part).part
+    ≡ replay who (public_part part) (released part.kept ((run who step part).part).accesses)
