@@ -1,3 +1,4 @@
 pub mod MemoryBy
+pub mod Kept
 pub mod Places
 pub mod Writes

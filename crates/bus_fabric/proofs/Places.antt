@@ -1,5 +1,5 @@
 -- FRAM and SRAM by the constants of the memory map.
-use Rattle.std.proofs.Common.{◌≡◌, ℕ, true, false, ◌≤◌, ◌<◌, ◌⊎◌, arith}
+use Rattle.std.proofs.Common.{◌≡◌, ℕ, ◌+◌, ◌%◌, true, false, ◌≤◌, ◌<◌, ◌⊎◌, arith}
 use Rattle.std.specs.Prelude.{IsTrue, if◌then◌else◌}
 use Rattle.std.proofs.lemmas.Bool.Decides.{nat_tests}
 use Rattle.chip_words.specs.Map.{has_bytes, is_fram, is_sram, region_at}
@@ -24,6 +24,11 @@ is_told at = grind (arith, nat_tests)
 pub memory_is_low : (at : ℕ) → IsTrue (has_bytes (region_at at)) → at < MAIN_END
 unfolding region_at
 memory_is_low at h = grind (arith, nat_tests)
+
+-- and so does the byte behind an even address of it
+pub words_are_low : (at : ℕ) → IsTrue (has_bytes (region_at at)) → at % 2 ≡ 0 → at + 2 ≤ MAIN_END
+unfolding region_at
+words_are_low at h even = grind (arith, nat_tests)
 
 -- One address, whose byte was `before`, behind a write of the addresses from `low` up to `high`, where it is `written`.
 pub record IsWritten (low high at before written after : ℕ) : Type 0 where

@@ -1,10 +1,12 @@
 -- What the fabric means, and words for what its calls do.
 use Rattle.std.specs.Prelude.{◌≡◌, ℕ, ◌+◌, ◌≤◌, ◌==◌, ◌&&◌, not, Bool, false, List, [], length, None, Option}
+use Rattle.chip_words.specs.declared.sizes.Size.{Size}
 use Rattle.chip_words.specs.Access.{Accessed}
 use Rattle.chip_words.specs.BusPart.{BusPart}
 use Rattle.chip_words.specs.Causes.{no_causes}
 use Rattle.chip_words.specs.Interrupts.{NMI_VECTOR, units_entered}
-use Rattle.chip_words.specs.Units.{Units, units_at_reset}
+use Rattle.chip_words.specs.Encap.{Encap, encap_written, kept_after}
+use Rattle.chip_words.specs.Units.{Units, units_at_reset, units_written}
 use Rattle.bus_fabric.specs.declared.fabric.Fabric.{Fabric}
 
 abbrev pub units_of : Fabric → Units
@@ -15,6 +17,7 @@ units_of fabric = record {
   dma = fabric.dma;
   fram = fabric.fram;
   mpu = fabric.mpu;
+  encap = fabric.encap;
 }
 
 abbrev pub bus_part_of : Fabric → BusPart
@@ -50,6 +53,24 @@ part_entered vector part = record part {
   units = units_entered vector part.units;
   nmi = part.nmi && not (vector == NMI_VECTOR);
 }
+
+-- a write of a register of the encapsulation, and with it the addresses that stay secret
+abbrev pub encap_set : Encap → BusPart → BusPart
+encap_set encap part = record part {
+  units = record (part.units) { encap = encap };
+  kept = kept_after part.kept (part.units).encap encap;
+}
+
+abbrev pub encapsulated : ℕ → Size → ℕ → BusPart → BusPart
+encapsulated at size value part =
+    encap_set (encap_written (part.units).encap ((part.units).mpu).is_open at size value) part
+
+-- a write of any register
+abbrev pub register_set : Units → BusPart → BusPart
+register_set units part = record part { units = units; kept = kept_after part.kept (part.units).encap units.encap }
+
+abbrev pub register_written : ℕ → Size → ℕ → BusPart → BusPart
+register_written at size value part = register_set (units_written part.units at size value) part
 
 -- memory changes so, and nothing else does
 abbrev pub ChangesMemory : (List ℕ → List ℕ) → Fabric → Fabric → Type 0

@@ -7,6 +7,7 @@ use Rattle.chip_words.specs.Ports.{first_ports}
 use Rattle.chip_words.specs.Timers.{first_timers}
 use Rattle.chip_words.specs.Dma.{first_dma}
 use Rattle.chip_words.specs.Fram.{first_fram}
+use Rattle.chip_words.specs.Encap.{first_encap}
 use Rattle.chip_words.specs.Mpu.{first_mpu}
 use Rattle.chip_words.specs.Units.{Units}
 use Rattle.chip_words.specs.BusPart.{BusPart}
@@ -21,6 +22,7 @@ first_units = record {
   dma = first_dma;
   fram = first_fram;
   mpu = first_mpu;
+  encap = first_encap;
 }
 
 -- nothing was written, sealed, requested, counted or listed

@@ -9,9 +9,7 @@ ghost use Rattle.chip_words.specs.Right.{right_of};
 ghost use Rattle.chip_words.specs.Sizes.{IsByteOrWord, span};
 
 use crate::fabric::Fabric;
-use chip_words::{
-    Access, Agent, Bus, Kind, PERIPHERAL_FETCH, Right, Segment, Size, is_built, load, store,
-};
+use chip_words::{Access, Agent, Bus, Kind, PERIPHERAL_FETCH, Right, Segment, Size, load, store};
 use memory_map::{Region, aligned, is_fram, region_of};
 
 /// What is read where nothing answers.
@@ -73,14 +71,13 @@ impl Fabric {
     ghost use Rattle.bus_fabric.specs.Fabric.{Accesses, Changes, ListsOne, bus_part_of, units_of};
 
     /// An access to a register of the peripherals.
-    #[tactic(auto, unfolding(chip_words::specs::Units::periph))]
+    #[tactic(auto, unfolding(chip_words::specs::Units::periph), using(crate::proofs::Kept::kept_by_a_read))]
     fn access_register(&mut self, kind: Kind, at: u32, size: Size, value: u32) -> u32
         requires width { IsByteOrWord size }
         requires fits { value < span size }
         ensures small { result < span size }
         ensures access { Accesses (access_register kind at size value) self.old result self.new }
     {
-        self.stop = self.stop || !is_built(at);
         match kind {
             Kind::Write => {
                 if let Some(cause) = self.write_register(at, size, value) {
@@ -127,12 +124,15 @@ impl Fabric {
         }
     }
 
-    /// The right of an access: the segments judge the processor and DMA.
+    /// The right of an access: the encapsulation is asked first, and the segments judge the processor and DMA.
     #[tactic(auto, unfolding(chip_words::specs::Right::right_of))]
     fn right(&self, who: Agent, kind: Kind, at: u32) -> Right
         requires place { at < 0x100000 }
         ensures right { result ≡ right_of (units_of self.now) who kind at }
     {
+        if !self.encap.allows(who, at, kind) {
+            return Right::No(Segment::Sealed);
+        }
         match who {
             Agent::Cpu(_) | Agent::Dma => self.mpu.right(kind, at),
             Agent::Entry | Agent::Debug | Agent::Boot => Right::Yes,

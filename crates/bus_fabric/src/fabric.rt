@@ -1,4 +1,4 @@
-ghost use Rattle.std.specs.Prelude.{◌≡◌, ◌<◌, ◌≤◌, None, true, not, IfOk, IfSome, IsTrue, length, slice_index, slice_set, vec_len};
+ghost use Rattle.std.specs.Prelude.{◌≡◌, ◌%◌, ◌<◌, ◌≤◌, None, true, not, IfOk, IfSome, IsTrue, length, slice_index, slice_set, vec_len};
 ghost use Rattle.memory_map.specs.declared.TheConstants.{MAIN_END};
 ghost use Rattle.chip_words.specs.Access.{is_over, numbered, requested, sys_asked};
 ghost use Rattle.chip_words.specs.Causes.{least_cause};
@@ -14,6 +14,7 @@ use chip_words::{Access, NoMemory, Seal, Segment, Size, load};
 use dma_unit::DmaUnit;
 use fram_ctrl::FramCtrl;
 use interrupt_reset::{Causes, Sys};
+use ip_encap::Encap;
 use memory_map::is_fram;
 use mpu_segments::{MpuSegments, Noted};
 use port_unit::Ports;
@@ -21,7 +22,7 @@ use std::alloc::Global;
 use timer_unit::Timers;
 
 /// The address of the reset vector (SLAS704, interrupt vector table).
-const RESET_VECTOR: usize = 0xFFFE;
+const RESET_VECTOR: u32 = 0xFFFE;
 
 /// The bus part of the chip over one flat memory.
 #[derive(Drop)]
@@ -32,10 +33,11 @@ pub struct Fabric {
     pub dma: DmaUnit,
     pub fram: FramCtrl,
     pub mpu: MpuSegments,
+    pub encap: Encap,
     /// An NMI is requested.
     pub nmi: bool,
     pub(crate) memory: Vec<u8>,
-    kept: Seal,
+    pub(crate) kept: Seal,
     fill: u8,
     budget: Option<u32>,
     writes: u32,
@@ -69,6 +71,7 @@ impl Fabric {
             dma: DmaUnit::new(),
             fram: FramCtrl::new(),
             mpu: MpuSegments::new(),
+            encap: Encap::new(),
             nmi: false,
             memory,
             kept: Seal { low: 0, high: 0 },
@@ -133,7 +136,7 @@ impl Fabric {
     fn end_violation(&mut self, place: Segment)
         ensures place { Changes (violation_ended place) self.old self.new }
     {
-        match self.mpu.note(place, false) {
+        match self.mpu.note(place, self.encap.vs()) {
             Noted::Nothing => {}
             Noted::Nmi => self.nmi = true,
             Noted::Reset(cause) => self.request(cause),
@@ -259,12 +262,24 @@ impl Fabric {
         self.memory[at as usize] = value;
     }
 
+    /// The word at an even address of FRAM or SRAM.
+    #[tactic(auto, using(crate::proofs::Places::words_are_low))]
+    pub fn word(&self, at: u32) -> u32
+        requires place { IsTrue (has_bytes (region_at at)) }
+        requires even { at % 2 ≡ 0 }
+        ensures value { result ≡ loaded (bus_part_of self.now).memory at Size.Word }
+        ensures small { result < 0x10000 }
+    {
+        load(self.memory.as_slice(), at as usize, Size::Word)
+    }
+
     /// The reset vector.
+    #[tactic(auto, unfolding(chip_words::specs::Map::region_at))]
     pub fn reset_vector(&self) -> u32
         ensures value { result ≡ loaded (bus_part_of self.now).memory reset_vector_at Size.Word }
         ensures small { result < 0x10000 }
     {
-        load(self.memory.as_slice(), RESET_VECTOR, Size::Word)
+        self.word(RESET_VECTOR)
     }
 
     /// Gives FRAM the bytes that its addresses have in a whole memory.

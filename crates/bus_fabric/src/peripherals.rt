@@ -16,7 +16,7 @@ use chip_words::{
 use port_unit::Pins;
 
 impl Fabric {
-    ghost use Rattle.bus_fabric.specs.Fabric.{Changes, ChangesUnits, part_at_reset, part_entered, units_of};
+    ghost use Rattle.bus_fabric.specs.Fabric.{Changes, ChangesUnits, encapsulated, part_at_reset, part_entered, register_written, units_of};
 
     /// A BOR or a PUC of the peripherals, with its cause.
     pub fn reset(&mut self, bor: bool, cause: u8)
@@ -29,6 +29,7 @@ impl Fabric {
         self.dma.reset(bor);
         self.fram.reset(bor);
         self.mpu.reset(bor);
+        self.encap.reset(bor);
         self.nmi = false;
     }
 
@@ -111,6 +112,7 @@ impl Fabric {
             Some(UnitName::Dma) => self.dma.read(at, size),
             Some(UnitName::Fram) => self.fram.read(at, size),
             Some(UnitName::Mpu) => self.mpu.read(at, size),
+            Some(UnitName::Encap) => self.encap.read(at, size),
             None => 0,
         }
     }
@@ -122,7 +124,7 @@ impl Fabric {
         requires fits { value < span size }
         ensures cause { result ≡ units_cause (units_of self.old) at size value }
         ensures number { IfSome result (λ cause. cause < 65) }
-        ensures units { ChangesUnits (λ units. units_written units at size value) self.old self.new }
+        ensures part { Changes (register_written at size value) self.old self.new }
     {
         match unit_at(at) {
             Some(UnitName::Sys) => self.sys.write(at, size, value),
@@ -131,7 +133,24 @@ impl Fabric {
             Some(UnitName::Dma) => self.dma.write(at, size, value),
             Some(UnitName::Fram) => self.fram.write(at, size, value),
             Some(UnitName::Mpu) => self.mpu.write(at, size, value),
+            Some(UnitName::Encap) => {
+                self.write_encap(at, size, value);
+                None
+            }
             None => None,
+        }
+    }
+
+    /// A write of a register of the encapsulation: where it locks an enabled area, the addresses of the seal stay
+    /// secret from now on.
+    fn write_encap(&mut self, at: u32, size: Size, value: u32)
+        requires width { IsByteOrWord size }
+        requires fits { value < span size }
+        ensures part { Changes (encapsulated at size value) self.old self.new }
+    {
+        let is_sealed = self.encap.write(at, size, value, self.mpu.is_open());
+        if is_sealed && self.encap.is_enabled() {
+            self.kept = self.encap.seal();
         }
     }
 }

@@ -2,7 +2,8 @@
 
 use crate::Fabric;
 use chip_words::{
-    Access, Agent, Bus, Kind, PAIN, PMMCTL0, POWER_ON, POWER_PASSWORD, SYSRSTIV, Seal, Size,
+    Access, Agent, Bus, Kind, MPUCTL0, MPUCTL1, MPUIPC0, MPUIPSEGB1, MPUIPSEGB2, PAIN, PMMCTL0,
+    POWER_ON, POWER_PASSWORD, SYSRSTIV, Seal, Size,
 };
 use memory_map::MAIN_END;
 use std::test::Fail;
@@ -107,8 +108,49 @@ fn registers_go_to_their_unit(rt: HostRuntime) -> Result<(), Fail> {
     assert_eq!(rt; fabric.read(CPU, 0x0512, Size::Word), 0x1C02);
     assert_eq!(rt; fabric.read(CPU, 0x0300, Size::Word), 0);
     assert!(rt; !fabric.is_stopped());
-    // MPUIPC0, which isn't built.
-    assert_eq!(rt; fabric.read(CPU, 0x05AA, Size::Word), 0);
-    assert!(rt; fabric.is_stopped());
+    Ok(())
+}
+
+#[test]
+fn a_lock_seals_the_area(rt: HostRuntime) -> Result<(), Fail> {
+    let mut fabric = Fabric::build(rt.alloc(), 0, FILL)?;
+    fabric.set(0x4900, 0x34);
+    fabric.set(0x4901, 0x12);
+    // The password, the borders 04800h and 05000h, and ENA, which is an area without a seal; and then LOCK.
+    fabric.write(CPU, MPUCTL0, Size::Word, 0xA500);
+    fabric.write(CPU, MPUIPSEGB1, Size::Word, 0x0480);
+    fabric.write(CPU, MPUIPSEGB2, Size::Word, 0x0500);
+    fabric.write(CPU, MPUIPC0, Size::Word, 0x0040);
+    assert_eq!(rt; fabric.kept(), Seal { low: 0, high: 0 });
+    assert_eq!(rt; fabric.read(Agent::Debug, 0x4900, Size::Word), 0x3FFF);
+    fabric.write(Agent::Debug, MPUIPC0, Size::Word, 0x00C0);
+    let seal = Seal {
+        low: 0x4800,
+        high: 0x5000,
+    };
+    assert_eq!(rt; fabric.kept(), seal);
+    for (who, word) in [
+        (Agent::Cpu(0x4800), 0x3FFF),
+        (Agent::Cpu(0x4808), 0x1234),
+        (Agent::Cpu(0x5000), 0x3FFF),
+        (Agent::Entry, 0x3FFF),
+        (Agent::Dma, 0x3FFF),
+        (Agent::Debug, 0x3FFF),
+        (Agent::Boot, 0x1234),
+    ] {
+        fabric.begin_step();
+        assert_eq!(rt; fabric.read(who, 0x4900, Size::Word), word);
+    }
+    // The violations set flag 4 of MPUCTL1, and a PUC leaves the lock.
+    assert_eq!(rt; fabric.noted(), 0x10);
+    fabric.end_step();
+    fabric.begin_step();
+    assert_eq!(rt; fabric.read(CPU, MPUCTL1, Size::Word), 0x10);
+    fabric.reset(false, POWER_PASSWORD);
+    assert_eq!(rt; fabric.read(CPU, 0x4900, Size::Word), 0x3FFF);
+    // A BOR ends the seal, but not what stays secret.
+    fabric.reset(true, POWER_ON);
+    assert_eq!(rt; fabric.read(CPU, 0x4900, Size::Word), 0x1234);
+    assert_eq!(rt; fabric.kept(), seal);
     Ok(())
 }

@@ -193,6 +193,14 @@ impl Encap {
         at < self.area.high && self.area.low <= at && !is_never_sealed(at)
     }
 
+    /// The seal holds an address.
+    #[tactic(auto, unfolding(chip_words::specs::Seals::is_in))]
+    pub fn is_sealed(&self, at: u32) -> bool
+        ensures { result ≡ is_in (seal_of self.now) at }
+    {
+        self.is_locked() && self.holds(at)
+    }
+
     /// VS: a violation of the area asks for a reset.
     pub fn vs(&self) -> bool
         ensures { result ≡ has_bit (self.now).mpuipc0 MPUIPVS_BIT }
