@@ -14,8 +14,14 @@ use Rattle.chip_core.specs.Run.{chip_after}
 use Rattle.chip_core.specs.Tick.{ticked}
 use Rattle.capsule.specs.Trace.{text_of_lines, trace_from, trace_of}
 
-pub text_of_lines-drop : (tick : ℕ) (items : List TraceItem) (i : ℕ) (d : TraceItem) → i < length items → text_of_lines tick (drop i items) ≡ line_of tick (get_or items i d) ++ text_of_lines tick (drop (i + 1) items)
+text_of_lines-drop : (tick : ℕ) (items : List TraceItem) (i : ℕ) (d : TraceItem) → i < length items → text_of_lines tick (drop i items) ≡ line_of tick (get_or items i d) ++ text_of_lines tick (drop (i + 1) items)
 text_of_lines-drop tick items i d h = rw (add-one, drop-cons items i d)
+
+-- the item at a place is written before those behind it
+pub text_of_lines-item : (tick : ℕ) (items : List TraceItem) (i : ℕ) (item : TraceItem) → item ≡ get_or items i item → i < length items → text_of_lines tick (drop i items) ≡ line_of tick item ++ text_of_lines tick (drop (i + 1) items)
+text_of_lines-item tick items i item is h =
+    text_of_lines-drop tick items i item h
+    ∙ ap (λ (one : TraceItem). line_of tick one ++ text_of_lines tick (drop (i + 1) items)) (sym is)
 
 -- what is left from a tick on
 abbrev pub left_from : ℕ → ℕ → Stimulus → State → List ℕ

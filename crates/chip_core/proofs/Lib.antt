@@ -1,2 +1,3 @@
 pub mod FirstMemory
 pub mod Printable
+pub mod Told

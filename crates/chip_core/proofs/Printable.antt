@@ -1,20 +1,18 @@
 -- Each line of a tick has room for its values.
-use Rattle.std.proofs.Common.{ℕ, zero, suc, ◌≤◌, Bool, true, false, List, [], ◌∷◌, ◌++◌, arith}
-use Rattle.std.specs.Prelude.{◌&&◌, All, Option, Some, None, if◌then◌else◌}
+use Rattle.std.proofs.Common.{◌≡◌, ℕ, zero, suc, ◌<◌, ◌≤◌, Bool, true, false, List, [], ◌∷◌, ◌++◌, arith, subst, sym}
+use Rattle.std.specs.Prelude.{◌&&◌, All, IfSome, Option, Some, None, if◌then◌else◌}
 use Rattle.std.proofs.lemmas.List.Elements.{All-append}
 use Rattle.trace_print.specs.declared.items.TraceItem.{TraceItem}
-use Rattle.trace_print.specs.declared.items.TraceItem.TheVariants.{On, Boot, Reset, Dead, Pin, Stop}
+use Rattle.trace_print.specs.declared.items.TraceItem.TheVariants.{On, Halt, Boot, Reset, Dead, Pin}
 use Rattle.trace_print.specs.Lines.{IsPrintable}
 use Rattle.chip_core.specs.declared.boots.Place.TheVariants.{Start, Sig, Done}
 use Rattle.chip_core.specs.declared.owners.Owner.{Owner}
 use Rattle.chip_core.specs.declared.owners.Owner.TheVariants as of
 use Rattle.port_unit.specs.declared.pins.Pins.{Pins}
 use Rattle.port_unit.specs.Pins.{levels_of, same_levels}
-use Rattle.stimulus.specs.Stimulus.{Stimulus}
 use Rattle.chip_core.specs.State.{State}
 use Rattle.chip_core.specs.Pins.{pins_of, pin_lines, port_line}
-use Rattle.chip_core.specs.Tick.{Moments, moments, taken_cause}
-use Rattle.chip_core.specs.Lines.{boot_lines, dead_lines, is_restart, lines_of, power_lines, reset_lines, turn_lines}
+use Rattle.chip_core.specs.Lines.{boot_lines, dead_lines, halt_lines, is_restart, power_lines, reset_lines, shown_lines}
 
 none : All IsPrintable []
 none k d h = absurd (omega (arith, h))
@@ -59,18 +57,36 @@ pin_lines-IsPrintable before after =
     line : (port : ℕ) → 1 ≤ port → port ≤ 4 → All IsPrintable (port_line port before after)
     line port low high = port_line-IsPrintable port before after low high
 
-turn_lines-IsPrintable : (owner : Owner) (cause : Option ℕ) (before : Pins) (after : State) → All IsPrintable (turn_lines owner cause before after)
-turn_lines-IsPrintable owner cause before after =
-    either (after.bus).stop (Stop ∷ []) (boot_lines owner ++ reset_lines cause ++ dead_lines owner cause after ++ pin_lines before (pins_of after)) (one Stop tt)
-    (All-append IsPrintable (boot_lines owner ++ reset_lines cause ++ dead_lines owner cause after) (pin_lines before (pins_of after))
-    (All-append IsPrintable (boot_lines owner ++ reset_lines cause) (dead_lines owner cause after)
-    (All-append IsPrintable (boot_lines owner) (reset_lines cause) (boot_lines-IsPrintable owner) (reset_lines-IsPrintable cause))
-    (either (is_restart owner cause && after.dead) (Dead ∷ []) [] (one Dead tt) none))
-    (pin_lines-IsPrintable before (pins_of after)))
+halt_lines-IsPrintable : (halt : Option ℕ) → IfSome halt (λ at. at < 0x100000) → All IsPrintable (halt_lines halt)
+halt_lines-IsPrintable (Some at) small = one (Halt at) small
+halt_lines-IsPrintable None small = none
 
-pub printable : (bench : Stimulus) (chip : State) → All IsPrintable (lines_of bench chip)
-unfolding lines_of
-printable bench chip =
-    let tick : Moments = moments bench chip in
-    All-append IsPrintable (power_lines tick.before) (turn_lines tick.owner (taken_cause (tick.turn).chip) (pins_of tick.before) tick.after) (either (tick.before).powered [] (On ∷ []) none (one On tt))
-    (turn_lines-IsPrintable tick.owner (taken_cause (tick.turn).chip) (pins_of tick.before) tick.after)
+-- one line more
+pub with_line :
+    (items : List TraceItem) (item : TraceItem) → All IsPrintable items → IsPrintable item →
+    All IsPrintable (items ++ item ∷ [])
+with_line items item p q = All-append IsPrintable items (item ∷ []) p (one item q)
+
+pub power_lines_printable : (chip : State) → All IsPrintable (power_lines chip)
+power_lines_printable chip = either chip.powered [] (On ∷ []) none (one On tt)
+
+shown_lines-IsPrintable :
+    (owner : Owner) (halt cause : Option ℕ) (before : Pins) (after : State) → IfSome halt (λ at. at < 0x100000) →
+    All IsPrintable (shown_lines owner halt cause before after)
+shown_lines-IsPrintable owner halt cause before after small =
+    All-append IsPrintable (halt_lines halt ++ boot_lines owner ++ reset_lines cause ++ dead_lines owner cause after) (pin_lines before (pins_of after))
+    (All-append IsPrintable (halt_lines halt ++ boot_lines owner ++ reset_lines cause) (dead_lines owner cause after)
+    (All-append IsPrintable (halt_lines halt ++ boot_lines owner) (reset_lines cause)
+    (All-append IsPrintable (halt_lines halt) (boot_lines owner) (halt_lines-IsPrintable halt small) (boot_lines-IsPrintable owner))
+    (reset_lines-IsPrintable cause))
+    (either (is_restart owner cause && after.dead) (Dead ∷ []) [] (one Dead tt) none))
+    (pin_lines-IsPrintable before (pins_of after))
+
+-- the lines of the turn behind others
+pub with_shown_lines :
+    (old new : List TraceItem) (owner : Owner) (halt cause : Option ℕ) (before : Pins) (after : State) →
+    new ≡ old ++ shown_lines owner halt cause before after → IfSome halt (λ at. at < 0x100000) →
+    All IsPrintable old → All IsPrintable new
+with_shown_lines old new owner halt cause before after same small p =
+    subst (All IsPrintable) (sym same)
+    (All-append IsPrintable old (shown_lines owner halt cause before after) p (shown_lines-IsPrintable owner halt cause before after small))

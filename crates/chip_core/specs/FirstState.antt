@@ -30,6 +30,8 @@ first_state image fill = record {
   powered = false;
   boot = Some Start;
   dead = false;
+  halted = false;
+  pending = false;
   second_tick = false;
   tick = 0;
 }

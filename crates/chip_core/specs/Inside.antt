@@ -11,6 +11,8 @@ state_of chip = record {
   powered = chip.powered;
   boot = chip.boot;
   dead = chip.dead;
+  halted = chip.halted;
+  pending = chip.pending;
   second_tick = chip.second_tick;
   tick = chip.tick;
 }

@@ -2,6 +2,8 @@ pub mod Boot
 pub mod Entry
 pub mod State
 pub mod FirstState
+pub mod Phase
+pub mod Debugger
 pub mod Pins
 pub mod Owners
 pub mod Turns

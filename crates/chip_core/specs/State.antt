@@ -13,6 +13,9 @@ pub record State : Type 0 where
   pub boot : Option Place
   -- the processor stands still, since there was no reset vector
   pub dead : Bool
+  -- the debugger halted the processor, or it will be halted once it may be
+  pub halted : Bool
+  pub pending : Bool
   -- the second tick of a transfer of DMA is next
   pub second_tick : Bool
   -- the number of the next tick

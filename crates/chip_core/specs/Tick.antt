@@ -7,7 +7,7 @@ use Rattle.chip_words.specs.Units.{units_clocked, units_driven}
 use Rattle.bus_fabric.specs.Fabric.{part_at_reset, tick_ended}
 use Rattle.stimulus.specs.declared.events.Event.{Event}
 use Rattle.stimulus.specs.declared.events.EventAct.{EventAct}
-use Rattle.stimulus.specs.declared.events.EventAct.TheVariants.{Pin}
+use Rattle.stimulus.specs.declared.events.EventAct.TheVariants.{Pin, Debug}
 use Rattle.stimulus.specs.declared.powers.Power.{Power}
 use Rattle.stimulus.specs.declared.powers.Power.TheVariants.{On}
 use Rattle.stimulus.specs.Events.{on_tick}
@@ -15,6 +15,7 @@ use Rattle.stimulus.specs.Powers.{power_at}
 use Rattle.stimulus.specs.Stimulus.{Stimulus}
 use Rattle.chip_core.specs.declared.boots.Place.{Place}
 use Rattle.chip_core.specs.declared.boots.Place.TheVariants.{Start}
+use Rattle.chip_core.specs.Debugger.{after_command}
 use Rattle.chip_core.specs.State.{State}
 use Rattle.chip_core.specs.declared.owners.Owner.{Owner}
 use Rattle.chip_core.specs.Turns.{Turn, at_reset_vector, owned, owner_of}
@@ -27,6 +28,8 @@ after_bor cause chip = record chip {
   busy = 0;
   boot = Some Start;
   dead = false;
+  halted = false;
+  pending = false;
   second_tick = false;
 }
 
@@ -34,11 +37,12 @@ after_bor cause chip = record chip {
 unfoldable pub powered : Power → State → State
 powered On chip = if chip.powered then chip else record (after_bor POWER_ON chip) { powered = true }
 
--- an event on a pin sets its external level
+-- an event on a pin sets its external level, and a command of the debugger does what it says
 abbrev pub after_event : EventAct → State → State
 after_event (Pin port bit level) chip = record chip {
   bus = record (chip.bus) { units = units_driven port bit level (chip.bus.units) };
 }
+after_event (Debug command) chip = after_command command chip
 
 -- events one after another
 abbrev pub after_events : List Event → State → State
@@ -92,14 +96,20 @@ taken_cause chip = least_cause (((chip.bus.units).sys).requested)
 unfoldable pub reset : State → State
 reset chip = after_cause (taken_cause chip) chip
 
+-- the chip with the power of its tick
+abbrev pub supplied : Stimulus → State → State
+supplied bench chip = powered (power_at bench chip.tick) chip
+
 -- the chip when the owner of the bus acts
 abbrev pub ready : Stimulus → State → State
-ready bench chip = timed (stimulated bench (powered (power_at bench chip.tick) chip))
+ready bench chip = timed (stimulated bench (supplied bench chip))
 
 -- the chip at each border of a tick
 pub record Moments : Type 0 where
   -- as the tick finds it
   pub before : State
+  -- with the power of the tick
+  pub supplied : State
   -- when the owner of the bus acts
   pub ready : State
   -- who owns the bus
@@ -109,16 +119,22 @@ pub record Moments : Type 0 where
   -- behind the reset
   pub after : State
 
-abbrev pub moments_with : State → State → Owner → Turn → Moments
-moments_with before ready owner turn =
-    record { before = before; ready = ready; owner = owner; turn = turn; after = reset turn.chip }
+abbrev pub moments_with : State → State → State → Owner → Turn → Moments
+moments_with before supplied ready owner turn = record {
+  before = before;
+  supplied = supplied;
+  ready = ready;
+  owner = owner;
+  turn = turn;
+  after = reset turn.chip;
+}
 
-abbrev pub moments_from : State → State → Owner → Moments
-moments_from before ready owner = moments_with before ready owner (owned owner ready)
+abbrev pub moments_from : State → State → State → Owner → Moments
+moments_from before supplied ready owner = moments_with before supplied ready owner (owned owner ready)
 
 -- the moments of the next tick
 unfoldable pub moments : Stimulus → State → Moments
-moments bench chip = moments_from chip (ready bench chip) (owner_of (ready bench chip))
+moments bench chip = moments_from chip (supplied bench chip) (ready bench chip) (owner_of (ready bench chip))
 
 -- the chip after its next tick, which has the next number
 unfoldable pub ticked : Stimulus → State → State

@@ -1,6 +1,6 @@
 -- Who owns the bus in a tick, and what the owner makes of its turn: a step of the boot until it is done, a transfer of
 -- DMA, an interrupt or an instruction.
-use Rattle.std.specs.Prelude.{ℕ, ◌+◌, ◌-◌, ◌==◌, nat_lt, Bool, true, false, if◌then◌else◌, List, Option, Some, None, slice_index}
+use Rattle.std.specs.Prelude.{ℕ, ◌+◌, ◌-◌, ◌==◌, ◌&&◌, ◌||◌, not, nat_lt, Bool, true, false, if◌then◌else◌, List, Option, Some, None, slice_index}
 use Rattle.chip_words.specs.declared.sizes.Size.TheVariants.{Word}
 use Rattle.chip_words.specs.declared.accesses.Agent.TheVariants as by
 use Rattle.chip_words.specs.Bits.{has_bit}
@@ -10,6 +10,7 @@ use Rattle.chip_words.specs.Causes.{RESERVED_WORD, least_cause, lesser_cause}
 use Rattle.chip_words.specs.Interrupts.{accepted, units_lines}
 use Rattle.chip_words.specs.Dma.{Dma}
 use Rattle.chip_words.specs.BusPart.{BusPart}
+use Rattle.chip_words.specs.Encap.{seal}
 use Rattle.chip_words.specs.Access.{sys_asked}
 use Rattle.chip_words.specs.Script.{Ran, run}
 use Rattle.chip_words.specs.Steps.{begun, step_ended, waits_in}
@@ -28,6 +29,7 @@ use Rattle.dma_unit.specs.Moves.{transfer}
 use Rattle.dma_unit.specs.Transfers.{due, move_at, passed, transferred}
 use Rattle.chip_core.specs.Boot.{boot_step}
 use Rattle.chip_core.specs.Entry.{entry}
+use Rattle.chip_core.specs.Phase.{is_private}
 use Rattle.chip_core.specs.State.{State}
 
 -- what the owner made of its turn. The list of the step's accesses, and the causes that they requested, still stand in
@@ -63,10 +65,14 @@ at_reset_vector chip = record chip {
   dead = reset_vector chip == no_vector;
 }
 
+-- the addresses that stay secret are those of the seal in force
+abbrev pub with_seal_kept : State → State
+with_seal_kept chip = record chip { bus = record (chip.bus) { kept = seal ((chip.bus).units).encap } }
+
 -- what a boot step leads to
 abbrev pub after_boot_step : BootStep → State → State
 after_boot_step (Going place) chip = record chip { boot = Some place }
-after_boot_step Ended chip = record (at_reset_vector chip) { boot = None }
+after_boot_step Ended chip = record (at_reset_vector (with_seal_kept chip)) { boot = None }
 after_boot_step NotBuilt chip = stopped chip
 
 abbrev pub boot_turn_from : Ran BootStep → State → State
@@ -146,11 +152,16 @@ abbrev pub free_turn : Option ℕ → State → Turn
 free_turn (Some vector) chip = entered vector chip
 free_turn None chip = if is_off chip then without_step chip else instructed chip
 
--- the processor's turn
+-- a halt that was asked for comes, unless the phase is private
+abbrev pub is_halting : State → Bool
+is_halting chip = chip.pending && not (is_private chip)
+
+-- the processor's turn: a halt uses it up
 unfoldable pub processor_turn : State → Turn
 processor_turn chip =
     if nat_lt 0 chip.busy then without_step (record chip { busy = chip.busy - 1 })
-    else if chip.dead then without_step chip
+    else if is_halting chip then without_step (record chip { halted = true; pending = false })
+    else if chip.halted || chip.dead then without_step chip
     else free_turn (accepted_by chip) chip
 
 -- the registers of DMA changed

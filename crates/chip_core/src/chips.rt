@@ -1,12 +1,12 @@
-ghost use Rattle.std.specs.Prelude.{◌≡◌, ◌<◌, ◌≤◌, [], All, IfOk, slice_index};
+ghost use Rattle.std.specs.Prelude.{◌≡◌, ◌+◌, ◌<◌, ◌≤◌, ◌++◌, [], All, IfOk, IfSome, slice_index};
 ghost use Rattle.arrayvec.specs.ArrayVec.{array_vec_len};
 ghost use Rattle.trace_print.specs.Lines.{IsPrintable};
-ghost use Rattle.stimulus.specs.Events.{IsPinAct};
+ghost use Rattle.stimulus.specs.Events.{IsAct};
 ghost use Rattle.chip_words.specs.Bits.{has_bit};
 ghost use Rattle.chip_words.specs.Causes.{is_of_bor as is_of_bor_cause};
 ghost use Rattle.chip_words.specs.Registers.{SR as STATUS};
 ghost use Rattle.chip_core.specs.FirstState.{first_state};
-ghost use Rattle.chip_core.specs.Lines.{lines_of, power_lines};
+ghost use Rattle.chip_core.specs.Lines.{event_lines, halted_since, lines_of, power_lines, stimulus_lines};
 ghost use Rattle.chip_core.specs.Pins.{pins_of};
 ghost use Rattle.chip_core.specs.Tick.{aclk_edge, after_bor, after_event, after_puc, powered, reset as reset_of, smclk_edge, stimulated, taken_cause, ticked, timed};
 
@@ -14,7 +14,7 @@ use crate::Lines;
 use crate::boots::Place;
 use crate::images::image_memory;
 use bus_fabric::Fabric;
-use chip_words::{DEBUG_RESET, NoMemory, POWER_ON, Regs, SOFTWARE_BOR, SR};
+use chip_words::{DEBUG_RESET, NoMemory, PC, POWER_ON, Regs, SOFTWARE_BOR, SR};
 use elf_image::Image;
 use port_unit::Pins;
 use std::alloc::Global;
@@ -43,6 +43,10 @@ pub struct Chip {
     pub(crate) powered: bool,
     pub(crate) boot: Option<Place>,
     pub(crate) dead: bool,
+    /// The debugger halted the processor.
+    pub(crate) halted: bool,
+    /// The processor will be halted, once it may be.
+    pub(crate) pending: bool,
     /// The second tick of a transfer of DMA is next.
     pub(crate) second_tick: bool,
     pub(crate) tick: u32,
@@ -79,6 +83,8 @@ impl Chip {
             powered: false,
             boot: Some(Place::Start),
             dead: false,
+            halted: false,
+            pending: false,
             second_tick: false,
             tick: 0,
         })
@@ -100,23 +106,25 @@ impl Chip {
     ///
     /// Where the chip would do something that isn't built, the lines end with STOP, and `is_stopped`
     /// says so.
-    #[tactic(auto, using(crate::proofs::Printable::printable), unfolding(crate::specs::Tick::ticked, crate::specs::Tick::moments, crate::specs::Lines::lines_of))]
+    #[tactic(auto, unfolding(crate::specs::Tick::ticked, crate::specs::Tick::moments, crate::specs::Lines::lines_of))]
     pub fn tick(&mut self, bench: &Bench, lines: &mut Lines)
         requires { (self.old).tick < 10000000 }
         ensures chip { self.new ≡ ticked bench.now self.old }
         ensures lines { lines.new.items ≡ lines_of bench.now self.old }
-        ensures printable { All IsPrintable (lines_of bench.now self.old) }
+        ensures printable { All IsPrintable lines.new.items }
     {
         lines.clear();
         let next = self.tick + 1;
         let pins = self.pins();
         self.power(bench.power(self.tick), lines);
-        self.stimulate(bench);
+        self.stimulate(bench, lines);
         self.time();
+        let was_halted = self.halted;
         let owner = self.owner();
         self.own(owner);
+        let halt = self.halted_since(was_halted);
         let cause = self.reset();
-        self.tell(owner, cause, pins, lines);
+        self.tell(owner, halt, cause, pins, lines);
         self.fabric.end_tick();
         self.tick = next;
     }
@@ -129,12 +137,13 @@ impl Chip {
     }
 
     /// The power of the tick: where it comes on, the chip is as after a BOR.
-    #[tactic(auto, unfolding(crate::specs::Tick::powered))]
+    #[tactic(auto, using(crate::proofs::Printable::power_lines_printable), unfolding(crate::specs::Tick::powered))]
     fn power(&mut self, power: Power, lines: &mut Lines)
         requires empty { lines.old.items ≡ [] }
         ensures chip { self.new ≡ powered power self.old }
         ensures lines { lines.new.items ≡ power_lines self.old }
         ensures count { array_vec_len lines.new ≤ 1 }
+        ensures printable { All IsPrintable lines.new.items }
     {
         match power {
             Power::On => {
@@ -156,6 +165,8 @@ impl Chip {
         self.busy = 0;
         self.boot = Some(Place::Start);
         self.dead = false;
+        self.halted = false;
+        self.pending = false;
         self.second_tick = false;
     }
 
@@ -187,25 +198,44 @@ impl Chip {
         cause
     }
 
-    /// Does the events of the tick, in the order of the bench.
+    /// Does the events of the tick, in the order of the bench, and adds what they show.
     #[tactic(auto, unfolding(crate::specs::Tick::stimulated))]
-    fn stimulate(&mut self, bench: &Bench)
-        ensures { self.new ≡ stimulated bench.now self.old }
+    fn stimulate(&mut self, bench: &Bench, lines: &mut Lines)
+        requires room { array_vec_len lines.old ≤ 1 }
+        requires printable { All IsPrintable lines.old.items }
+        ensures chip { self.new ≡ stimulated bench.now self.old }
+        ensures lines { lines.new.items ≡ lines.old.items ++ stimulus_lines bench.now self.old }
+        ensures count { array_vec_len lines.new ≤ 9 }
+        ensures printable { All IsPrintable lines.new.items }
     {
         let events = bench.events(self.tick);
         for event in events {
-            self.react(event.act);
+            self.react(event.act, lines);
         }
     }
 
-    /// Does one event.
-    fn react(&mut self, act: EventAct)
-        requires { IsPinAct act }
-        ensures { self.new ≡ after_event act self.old }
+    /// Does one event, and adds what it shows.
+    fn react(&mut self, act: EventAct, lines: &mut Lines)
+        requires range { IsAct act }
+        requires room { array_vec_len lines.old ≤ 31 }
+        requires printable { All IsPrintable lines.old.items }
+        ensures chip { self.new ≡ after_event act self.old }
+        ensures lines { lines.new.items ≡ lines.old.items ++ event_lines act self.old }
+        ensures count { array_vec_len lines.new ≤ array_vec_len lines.old + 1 }
+        ensures printable { All IsPrintable lines.new.items }
     {
         match act {
             EventAct::Pin(port, bit, level) => self.fabric.drive(port, bit, level),
+            EventAct::Debug(command) => self.debug(command, lines),
         }
+    }
+
+    /// The PC at which the processor was halted, where it wasn't before.
+    fn halted_since(&self, was_halted: bool) -> Option<u32>
+        ensures place { result ≡ halted_since was_halted self.now }
+        ensures small { IfSome result (λ at. at < 0x100000) }
+    {
+        (self.halted && !was_halted).then_some(self.regs.get(PC))
     }
 
     /// The timers take the clock edges of the tick, once the boot is done.

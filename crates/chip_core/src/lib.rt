@@ -6,6 +6,7 @@ use trace_print::TraceItem;
 
 mod boots;
 mod chips;
+mod debugger;
 mod entries;
 mod images;
 mod lines;

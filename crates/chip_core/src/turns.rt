@@ -2,7 +2,7 @@
 
 ghost use Rattle.std.specs.Prelude.{◌≡◌, ◌<◌};
 ghost use Rattle.chip_core.specs.Owners.{IsChannel};
-ghost use Rattle.chip_core.specs.Turns.{accepted_by, at_reset_vector, boot_turn, entered, free_turn, instructed, instruction_ended, is_off as is_off_state, owned, owner_of, processor_turn, rested_by, transfer_turn, takes_interrupts as takes_interrupts_state};
+ghost use Rattle.chip_core.specs.Turns.{accepted_by, at_reset_vector, boot_turn, entered, free_turn, instructed, instruction_ended, is_off as is_off_state, owned, owner_of, processor_turn, rested_by, transfer_turn, with_seal_kept, takes_interrupts as takes_interrupts_state};
 
 use crate::boots::{self, BootStep, Place};
 use crate::chips::Chip;
@@ -96,8 +96,10 @@ impl Chip {
 
     /// Ends the boot.
     fn start(&mut self)
-        ensures chip { self.new ≡ record (at_reset_vector self.old) { boot = None } }
+        ensures chip { self.new ≡ record (at_reset_vector (with_seal_kept self.old)) { boot = None } }
     {
+        let seal = self.fabric.encap.seal();
+        self.fabric.keep(seal);
         self.load_vector();
         self.boot = None;
     }
@@ -118,7 +120,10 @@ impl Chip {
     {
         if self.busy > 0 {
             self.busy -= 1;
-        } else if !self.dead {
+        } else if self.pending && !self.is_private() {
+            self.halted = true;
+            self.pending = false;
+        } else if !self.halted && !self.dead {
             self.turn_freely();
         }
     }
