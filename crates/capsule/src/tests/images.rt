@@ -23,16 +23,6 @@ fn writes_the_trace_of_an_image(rt: HostRuntime) -> Result<(), Fail> {
     )?;
     run_of(overlaid.as_slice()).gives(&rt, Status::Done, BLINK_TRACE)?;
 
-    // MPUIPC0 isn't built.
-    let unbuilt = image(
-        alloc,
-        &[
-            (0x4400, &[0xC392, 0x0130, 0x4215, 0x05AA]),
-            (0xFFFE, &VECTOR),
-        ],
-    )?;
-    run_of(unbuilt.as_slice()).gives(&rt, Status::Done, "0 ON\n2 BOOT 00 00000 00000\n7 STOP\n")?;
-
     // With the signature of IP Encapsulation the boot goes on to what isn't built.
     let signed = image(
         alloc,

@@ -1,6 +1,8 @@
 mod benches;
 mod cases;
+mod debugger;
 mod dma;
+mod encapsulation;
 mod images;
 mod interrupts;
 mod programs;
