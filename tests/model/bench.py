@@ -3,6 +3,10 @@
 import tomllib
 from dataclasses import dataclass, field
 
+from built import Built
+from debug import (
+    Command, Dump, Go, Halt, ReadRegister, ReadWord, Reset, SetRegister, WriteWord,
+)
 from ports import Pin
 
 VERSION = 1
@@ -11,8 +15,23 @@ END_WITH_TIMERS = 10_000_000
 EVENTS = 10_000
 EVENTS_IN_A_TICK = 8
 ROOT_KEYS = {"version", "end", "fill", "event"}
-EVENT_KEYS = {"tick", "pin", "level"}
 PINS = {Pin(port, bit).name(): Pin(port, bit) for port in range(1, 5) for bit in range(8)}
+
+ADDRESS = ("at", 0, 0xFFFFF)
+REGISTER = ("reg", 0, 15)
+WORD = ("value", 0, 0xFFFF)
+VALUE_OF_REGISTER = ("value", 0, 0xFFFFF)
+# By the name of a command: what makes it, and from which keys with their ranges.
+COMMANDS = {
+    "read": (ReadWord, (ADDRESS,)),
+    "write": (WriteWord, (ADDRESS, WORD)),
+    "dump": (Dump, (ADDRESS, ("count", 1, 32))),
+    "reg": (ReadRegister, (REGISTER,)),
+    "setreg": (SetRegister, (REGISTER, VALUE_OF_REGISTER)),
+    "halt": (Halt, ()),
+    "go": (Go, ()),
+    "reset": (Reset, ()),
+}
 
 
 class Refused(Exception):
@@ -20,10 +39,15 @@ class Refused(Exception):
 
 
 @dataclass(frozen=True)
-class Event:
-    tick: int
+class PinLevel:
     pin: Pin
     level: int
+
+
+@dataclass(frozen=True)
+class Event:
+    tick: int
+    act: PinLevel | Command
 
 
 @dataclass
@@ -39,19 +63,33 @@ class Bench:
         return ticks
 
 
+# Writing
+
 def bench_text(bench: Bench) -> str:
     lines = [f"version = {VERSION}", f"end = {bench.end}", f"fill = {bench.fill}"]
     for event in bench.events:
-        lines += ["", "[[event]]", f"tick = {event.tick}", f'pin = "{event.pin.name()}"']
-        lines += [f"level = {event.level}"]
+        lines += ["", "[[event]]", f"tick = {event.tick}", *lines_of_act(event.act)]
     return "\n".join(lines) + "\n"
 
+
+def lines_of_act(act: PinLevel | Command) -> list[str]:
+    if isinstance(act, PinLevel):
+        return [f'pin = "{act.pin.name()}"', f"level = {act.level}"]
+    for name, (maker, keys) in COMMANDS.items():
+        if isinstance(act, maker):
+            values = vars(act).values()
+            pairs = [f"{key} = {value}" for (key, _, _), value in zip(keys, values)]
+            return [f'debug = "{name}"', *pairs]
+    raise TypeError(act)
+
+
+# Reading
 
 def is_integer(value, least: int, most: int) -> bool:
     return type(value) is int and least <= value <= most
 
 
-def bench_of_text(file: bytes, longest_end: int) -> Bench:
+def bench_of_text(file: bytes, built: Built) -> Bench:
     """The bench of a file, or Refused."""
     try:
         root = tomllib.loads(file.decode("utf-8"))
@@ -59,7 +97,7 @@ def bench_of_text(file: bytes, longest_end: int) -> Bench:
         raise Refused("NotToml") from error
     if not is_integer(root.get("version"), VERSION, VERSION):
         raise Refused("Field(Version)")
-    if not is_integer(root.get("end"), 1, longest_end):
+    if not is_integer(root.get("end"), 1, longest_end(built)):
         raise Refused("Field(End)")
     if not is_integer(root.get("fill", 0), 0, 255):
         raise Refused("Field(Fill)")
@@ -72,24 +110,53 @@ def bench_of_text(file: bytes, longest_end: int) -> Bench:
         raise Refused("TooMany")
     bench = Bench(root["end"], root.get("fill", 0))
     for table in tables:
-        add_event(bench, table)
+        add_event(bench, table, built)
     return bench
 
 
-def add_event(bench: Bench, table) -> None:
+def longest_end(built: Built) -> int:
+    return END_WITH_TIMERS if built >= Built.TIMERS else END_WITHOUT_TIMERS
+
+
+def add_event(bench: Bench, table, built: Built) -> None:
+    if not isinstance(table, dict):
+        raise Refused("Event")
+    keys = dict(table)
+    tick = keys.pop("tick", None)
     earlier = bench.events
     least_tick = earlier[-1].tick if earlier else 0
-    right = (
-        isinstance(table, dict)
-        and set(table) == EVENT_KEYS
-        and is_integer(table["tick"], least_tick, bench.end - 1)
-        and isinstance(table["pin"], str)
-        and table["pin"] in PINS
-        and is_integer(table["level"], 0, 1)
-    )
-    if not right:
+    if not is_integer(tick, least_tick, bench.end - 1):
         raise Refused("Event")
-    tick = table["tick"]
     if sum(event.tick == tick for event in earlier[-EVENTS_IN_A_TICK:]) == EVENTS_IN_A_TICK:
         raise Refused("Event")
-    bench.events.append(Event(tick, PINS[table["pin"]], table["level"]))
+    act = pin_level(keys)
+    if act is None and built >= Built.ENCAPSULATION:
+        act = command(keys)
+    if act is None:
+        raise Refused("Event")
+    bench.events.append(Event(tick, act))
+
+
+def pin_level(keys: dict) -> PinLevel | None:
+    """What the keys of an event besides its tick say, where it is about a pin."""
+    right = (
+        set(keys) == {"pin", "level"}
+        and isinstance(keys["pin"], str)
+        and keys["pin"] in PINS
+        and is_integer(keys["level"], 0, 1)
+    )
+    return PinLevel(PINS[keys["pin"]], keys["level"]) if right else None
+
+
+def command(keys: dict) -> Command | None:
+    """The same, where it is about the debug port."""
+    keys = dict(keys)
+    name = keys.pop("debug", None)
+    if not isinstance(name, str) or name not in COMMANDS:
+        return None
+    maker, needed = COMMANDS[name]
+    if set(keys) != {key for key, _, _ in needed}:
+        return None
+    if not all(is_integer(keys[key], least, most) for key, least, most in needed):
+        return None
+    return maker(*(keys[key] for key, _, _ in needed))

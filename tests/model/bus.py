@@ -6,11 +6,14 @@ Two sizes of data: "b" is a byte and "w" a word.
 from collections.abc import Callable
 from enum import Enum
 
+from built import Built
+from encapsulation import Encapsulation
 from memory import (
     ADDRESS_MASK, BYTE_OF_NO_STORE, FRAM_REGIONS, VACANT_WORD, Memory, Region, region_of,
 )
-from protection import Protection, Right
+from protection import Place, Protection
 from registers_of_units import HIGH_HALF, LOW_HALF, WORD
+from right import Right
 from system import Cause
 
 ENCAPSULATION_REGISTERS = range(0x05AA, 0x05B0)
@@ -22,23 +25,26 @@ class Agent(Enum):
     PROCESSOR = "processor"
     ENTRY = "entry"
     DMA = "dma"
+    DEBUG = "debug"
 
 
-JUDGED_AGENTS = (Agent.PROCESSOR, Agent.DMA)
+JUDGED_BY_SEGMENTS = (Agent.PROCESSOR, Agent.DMA)
 
 
 class Bus:
-    """Without protection every address that no unit has is a STOP."""
+    """Before protection is built every address that no unit has is a STOP."""
 
     def __init__(
-        self, memory: Memory, units, request: Callable[[Cause], None], protection: Protection,
-        with_protection: bool,
+        self, memory: Memory, units, request: Callable[[Cause], None],
+        encapsulation: Encapsulation, protection: Protection, built: Built,
     ):
         self.memory = memory
         self.request = request
+        self.encapsulation = encapsulation
         self.protection = protection
-        self.with_protection = with_protection
+        self.built = built
         self.agent = Agent.PROCESSOR
+        self.instruction: int | None = None  # where that of the processor begins
         self.accesses_to_fram = 0  # of this step
         self.stopped = False  # a register was asked for that isn't built
         self.unit_of_address = {}
@@ -46,8 +52,9 @@ class Bus:
             for address in unit.addresses:
                 self.unit_of_address[address] = unit
 
-    def begin_step(self, agent: Agent) -> None:
+    def begin_step(self, agent: Agent, instruction: int | None = None) -> None:
         self.agent = agent
+        self.instruction = instruction
         self.accesses_to_fram = 0
 
     def fetch(self, instruction_address: int, at: int) -> int:
@@ -82,11 +89,16 @@ class Bus:
             self.memory.write_byte(at, value)
 
     def is_refused(self, at: int, right: Right) -> bool:
-        """Counts an access where it is one to FRAM, and judges its right."""
+        """Counts an access where it is one to FRAM, and judges its right, by segments last."""
         if region_of(at) not in FRAM_REGIONS:
             return False
         self.accesses_to_fram += 1
-        if self.agent not in JUDGED_AGENTS:
+        if self.encapsulation.refuses(at, right, self.instruction):
+            self.protection.tell_of_refused(Place.ENCAPSULATION, right, self.agent.value)
+            if self.agent is not Agent.DEBUG:
+                self.protection.note(Place.ENCAPSULATION)
+            return True
+        if self.agent not in JUDGED_BY_SEGMENTS:
             return False
         return self.protection.refuses(at, right, self.agent.value)
 
@@ -97,7 +109,9 @@ class Bus:
         return unit
 
     def is_unbuilt(self, address: int) -> bool:
-        return not self.with_protection or address in ENCAPSULATION_REGISTERS
+        if address in ENCAPSULATION_REGISTERS:
+            return self.built < Built.ENCAPSULATION
+        return self.built < Built.PROTECTION
 
     def read_register(self, at: int, size: str) -> int:
         address = at & ~1

@@ -1,17 +1,23 @@
 """Random cases: an image and a bench from a seed and an index."""
 
 import random
+from collections.abc import Sequence
 from dataclasses import dataclass, field
 
 import actions
+import debug_situations
 import dma_actions
 import dma_situations
+import encapsulation_actions
+import encapsulation_situations
 import protection_actions
 import protection_situations
 import timer_actions
 import timer_situations
-from bench import PINS, Bench, Event, bench_text
+from bench import PINS, Bench, Event, PinLevel, bench_text, longest_end
+from built import Built
 from image import HEADER, Segment, image_bytes
+from layout import Program
 from programs import (
     Style, random_instructions, random_program, stack_on_flags, stack_on_timers,
 )
@@ -21,7 +27,21 @@ LONG_END_WITHOUT_TIMERS = 32_768
 LONG_RUN = 9000
 TIMES_FOR_PROTECTION = 3  # what is protected has to be set up first, and waits take their time
 SHARE_OF_REFUSED = 0.05
+SHARE_OF_SINGLE_COMMANDS = 0.05
 SHARE_OF_DEAD_ENDS = 0.01
+EDGES_OF_ADDRESSES = ("0", "1048575", "1048576", "-1", "0xFFFFF", "65536")
+EDGES_OF_REGISTERS = ("0", "15", "16", "-1")
+WRONG_COMMANDS = (
+    ('debug = "read"', "at = 1048576"), ('debug = "write"', "at = 1048576", "value = 0"),
+    ('debug = "write"', "at = 0", "value = 65536"), ('debug = "dump"', "at = 0", "count = 33"),
+    ('debug = "dump"', "at = 0", "count = 0"), ('debug = "dump"', "at = 1048576", "count = 1"),
+    ('debug = "reg"', "reg = 16"), ('debug = "setreg"', "reg = 16", "value = 0"),
+    ('debug = "setreg"', "reg = 4", "value = 1048576"), ('debug = "erase"',),
+    ('debug = "halt"', "at = 0"), ('debug = "go"', 'pin = "P1.0"', "level = 1"),
+    ('debug = "read"', "at = 0", "value = 0"), ('debug = "setreg"', "reg = 4"),
+)
+SHARE_OF_DEBUGGED = {"debug": 1.0, "encapsulation": 0.5, "encapsulation and interrupts": 0.5,
+                     "encapsulation and dma": 0.5}  # of others it is less
 
 RARE_INSTRUCTIONS = ((random_instructions, 0.3),)
 WAITS = ((actions.act_on_status, 2), (actions.wait, 2), (actions.watch_anything, 1))
@@ -111,6 +131,40 @@ PROTECTION_WITH_DMA = Style(
     interrupts=0.6, longest_chapter=14, loops=0.1, rescued=0.6,
 )
 
+ENCAPSULATED = ((encapsulation_situations.act_in_a_situation, 12),
+                (encapsulation_actions.act_on_encapsulation, 3))
+ENCAPSULATION = Style(
+    weights=(*ENCAPSULATED, (protection_actions.act_on_protection, 1), (actions.act_on_ports, 0.3),
+             (actions.wait, 0.5), (random_instructions, 0.8)),
+    interrupts=0.15, longest_chapter=14, loops=0.1, rescued=0.6, has_vault=True,
+)
+ENCAPSULATION_WITH_INTERRUPTS = Style(
+    weights=(
+        *ENCAPSULATED, (actions.act_on_status, 3), (timer_actions.set_up, 1.2),
+        (actions.enable_port_interrupts, 0.6), (actions.set_watchdog, 0.6), (actions.wait, 0.5),
+        (stack_on_flags, 0.2),
+    ),
+    interrupts=1.0, longest_chapter=14, loops=0.1, rescued=0.5, has_vault=True,
+)
+ENCAPSULATION_WITH_DMA = Style(
+    weights=(
+        *ENCAPSULATED, (encapsulation_situations.transfer, 6), (protection_situations.sleep, 1),
+        (dma_actions.act_on_dma, 2), (actions.act_on_status, 1.5), (timer_actions.set_up, 0.5),
+    ),
+    interrupts=0.5, longest_chapter=14, loops=0.1, rescued=0.6, has_vault=True,
+)
+DEBUG = Style(
+    weights=(
+        (encapsulation_situations.call_in, 3), (encapsulation_situations.call_in_a_loop, 5),
+        (encapsulation_actions.act_on_encapsulation, 2),
+        (encapsulation_situations.act_in_a_situation, 2), (actions.wait, 1.5),
+        (actions.watch_anything, 1), (actions.act_on_ports, 1), (timer_actions.set_up, 1),
+        (actions.act_on_status, 1), (dma_actions.set_up, 0.7), (random_instructions, 1),
+        (protection_actions.set_waits, 0.3),
+    ),
+    interrupts=0.4, longest_chapter=12, loops=0.4, rescued=0.2, has_vault=True,
+)
+
 STYLES = {"instructions": INSTRUCTIONS, "system": SYSTEM, "interrupts": INTERRUPTS, "loops": LOOPS}
 STYLES_WITH_TIMERS = {
     "timers": TIMERS, "timers and interrupts": TIMERS_WITH_INTERRUPTS,
@@ -121,10 +175,18 @@ STYLES_WITH_PROTECTION = {
     "protection and interrupts": PROTECTION_WITH_INTERRUPTS,
     "protection and dma": PROTECTION_WITH_DMA,
 }
+STYLES_WITH_ENCAPSULATION = {
+    "encapsulation": ENCAPSULATION,
+    "encapsulation and interrupts": ENCAPSULATION_WITH_INTERRUPTS,
+    "encapsulation and dma": ENCAPSULATION_WITH_DMA,
+    "debug": DEBUG,
+}
+LONG_STYLES = {*STYLES_WITH_PROTECTION, *STYLES_WITH_ENCAPSULATION}
 WEIGHT_OF_STYLE = {"instructions": 4, "system": 3, "interrupts": 3, "loops": 1, "timers": 5,
                    "timers and interrupts": 5, "dma": 15, "dma and interrupts": 11,
                    "waits": 7, "protection": 22, "protection and interrupts": 17,
-                   "protection and dma": 15}
+                   "protection and dma": 15, "encapsulation": 55,
+                   "encapsulation and interrupts": 40, "encapsulation and dma": 30, "debug": 60}
 
 
 @dataclass
@@ -146,32 +208,52 @@ class Case:
         return None if self.bench is None else bench_text(self.bench).encode()
 
 
-def random_case(seed: int, index: int, timers: bool, protection: bool) -> Case:
-    """The case of this index. It depends on nothing but the four values."""
-    name = f"{seed}/{index}/{timers}"
-    rng = random.Random(f"{name}/protection" if protection else name)
-    styles = STYLES | (STYLES_WITH_TIMERS if timers else {})
-    styles |= STYLES_WITH_PROTECTION if protection else {}
+def styles_of(built: Built) -> dict[str, Style]:
+    styles = dict(STYLES)
+    if built >= Built.TIMERS:
+        styles |= STYLES_WITH_TIMERS
+    if built >= Built.PROTECTION:
+        styles |= STYLES_WITH_PROTECTION
+    if built >= Built.ENCAPSULATION:
+        styles |= STYLES_WITH_ENCAPSULATION
+    return styles
+
+
+def random_case(seed: int, index: int, built: Built) -> Case:
+    """The case of this index. It depends on nothing but the three values."""
+    rng = random.Random(f"{seed}/{index}/{built.name}")
+    styles = styles_of(built)
     kinds = list(styles)
     kind, = rng.choices(kinds, [WEIGHT_OF_STYLE[kind] for kind in kinds])
-    segments = random_program(rng, styles[kind], timers, protection)
+    program = random_program(rng, styles[kind], built)
+    segments = program.segments()
     if rng.random() < SHARE_OF_DEAD_ENDS:
-        return dead_end(rng, segments, timers)
+        return dead_end(rng, program, built)
     if rng.random() < 0.1:
         overlap(rng, segments)
-    case = Case(kind, segments, random_bench(rng, timers))
-    if kind in STYLES_WITH_PROTECTION and case.bench is not None and case.bench.end < LONG_RUN:
+    case = Case(kind, segments, random_bench(rng, built))
+    if kind in LONG_STYLES and case.bench is not None and case.bench.end < LONG_RUN:
         case.bench.end *= TIMES_FOR_PROTECTION
+    if built >= Built.ENCAPSULATION and case.bench is not None:
+        if rng.random() < SHARE_OF_DEBUGGED.get(kind, 0.3):
+            add_sessions(rng, case.bench, program)
     if rng.random() < SHARE_OF_REFUSED:
-        spoil_files(rng, case, timers)
+        spoil_files(rng, case, built)
+    elif built >= Built.ENCAPSULATION and rng.random() < SHARE_OF_SINGLE_COMMANDS:
+        case.kind = "single commands"
+        case.refused_bench = bench_of_a_command(rng).encode()
     return case
 
 
-def dead_end(rng: random.Random, segments: list[Segment], timers: bool) -> Case:
+def dead_end(rng: random.Random, program: Program, built: Built) -> Case:
     """No reset vector, in a run that is long enough for the watchdog to ask for a reset."""
+    segments = program.segments()
     segments.append(Segment(0xFFFE, bytes((0xFF, 0xFF))))
-    end = LONG_END if timers else LONG_END_WITHOUT_TIMERS
-    return Case("dead end", segments, Bench(end, 0, random_events(rng, end)))
+    end = long_end(built)
+    bench = Bench(end, 0, random_events(rng, end))
+    if built >= Built.ENCAPSULATION and rng.random() < 0.7:
+        add_sessions(rng, bench, program)
+    return Case("dead end", segments, bench)
 
 
 def overlap(rng: random.Random, segments: list[Segment]) -> None:
@@ -187,15 +269,19 @@ def overlap(rng: random.Random, segments: list[Segment]) -> None:
 
 # Benches
 
-def random_bench(rng: random.Random, timers: bool) -> Bench | None:
+def long_end(built: Built) -> int:
+    return LONG_END if built >= Built.TIMERS else LONG_END_WITHOUT_TIMERS
+
+
+def random_bench(rng: random.Random, built: Built) -> Bench | None:
     if rng.random() < 0.03:
         return None
     fill = rng.choice((0, 0, 0xFF, 0x03, 0x13, rng.randrange(256)))
-    end = random_end(rng, timers)
+    end = random_end(rng, built)
     return Bench(end, fill, random_events(rng, end))
 
 
-def random_end(rng: random.Random, timers: bool) -> int:
+def random_end(rng: random.Random, built: Built) -> int:
     chance = rng.random()
     if chance < 0.03:
         return rng.randrange(1, 40)
@@ -205,7 +291,7 @@ def random_end(rng: random.Random, timers: bool) -> int:
         return rng.randrange(1200, 3500)
     if chance < 0.99:
         return rng.randrange(3500, 9000)
-    return LONG_END if timers else LONG_END_WITHOUT_TIMERS
+    return long_end(built)
 
 
 def random_events(rng: random.Random, end: int) -> list[Event]:
@@ -220,19 +306,32 @@ def random_events(rng: random.Random, end: int) -> list[Event]:
     events: list[Event] = []
     for tick in sorted(set(ticks)):
         count = rng.choice((1, 1, 1, 2, 3, 8))
-        events += [Event(tick, rng.choice(pins), rng.randrange(2)) for _ in range(count)]
+        events += [
+            Event(tick, PinLevel(rng.choice(pins), rng.randrange(2))) for _ in range(count)
+        ]
     return events
+
+
+def add_sessions(rng: random.Random, bench: Bench, program: Program) -> None:
+    """What comes to the debug port, before or behind what comes to the pins in the same tick."""
+    parts = [
+        bench.events,
+        debug_situations.random_sessions(rng, bench.end, program.places, program.codes),
+    ]
+    rng.shuffle(parts)
+    events = sorted(parts[0] + parts[1], key=lambda event: event.tick)
+    bench.events = debug_situations.at_most_eight_in_a_tick(events)
 
 
 # Files that are refused, most of them
 
-def spoil_files(rng: random.Random, case: Case, timers: bool) -> None:
+def spoil_files(rng: random.Random, case: Case, built: Built) -> None:
     case.kind = "spoiled files"
     if rng.random() < 0.5:
         case.refused_image = spoiled_image(rng, case.image_file())
     else:
         file = case.bench_file() or b"version = 1\nend = 9\n"
-        case.refused_bench = spoiled_bench(rng, file, timers)
+        case.refused_bench = spoiled_bench(rng, file, built)
 
 
 def spoiled_image(rng: random.Random, file: bytes) -> bytes:
@@ -252,10 +351,12 @@ def spoiled_image(rng: random.Random, file: bytes) -> bytes:
     return bytes(changed)
 
 
-def spoiled_bench(rng: random.Random, file: bytes, timers: bool) -> bytes:
+def spoiled_bench(rng: random.Random, file: bytes, built: Built) -> bytes:
     text = file.decode()
+    if built >= Built.ENCAPSULATION and rng.random() < 0.6:
+        return bench_of_a_command(rng).encode()
     least = "version = 1\nend = 20\nfill = 5\n"
-    longest = 10_000_000 if timers else LONG_END_WITHOUT_TIMERS
+    longest = longest_end(built)
     event = '\n[[event]]\ntick = 0\npin = "P1.0"\nlevel = 1\n'
     one = least + event
     return rng.choice((
@@ -274,3 +375,32 @@ def spoiled_bench(rng: random.Random, file: bytes, timers: bool) -> bytes:
     )).encode(rng.choice(("utf-8", "utf-8", "latin-1")), errors="replace")
 
 
+def bench_of_a_command(rng: random.Random) -> str:
+    """One command with a key at the end of its range, or with one thing wrong."""
+    if rng.random() < 0.5:
+        return bench_of_event(rng.choice(WRONG_COMMANDS))
+    keys = rng.choice((
+        {"debug": '"read"', "at": rng.choice(EDGES_OF_ADDRESSES)},
+        {"debug": '"write"', "at": rng.choice(EDGES_OF_ADDRESSES),
+         "value": rng.choice(("0", "65535", "65536", "-1"))},
+        {"debug": '"dump"', "at": rng.choice(EDGES_OF_ADDRESSES),
+         "count": rng.choice(("0", "1", "32", "33"))},
+        {"debug": '"reg"', "reg": rng.choice(EDGES_OF_REGISTERS)},
+        {"debug": '"setreg"', "reg": rng.choice(EDGES_OF_REGISTERS),
+         "value": rng.choice(EDGES_OF_ADDRESSES)},
+        {"debug": rng.choice(('"halt"', '"go"', '"reset"', '"erase"', '"Halt"', '"step"', "1"))},
+    ))
+    chance = rng.random()
+    if chance < 0.15:
+        del keys[rng.choice(list(keys))]
+    elif chance < 0.35:
+        keys[rng.choice(("at", "value", "count", "reg", "pin", "level", "name"))] = "0"
+    elif chance < 0.45:
+        keys[rng.choice(list(keys))] = rng.choice(("true", "1.0", '"1"', "[]", "{}"))
+    lines = [f"{key} = {value}" for key, value in keys.items()]
+    rng.shuffle(lines)
+    return bench_of_event(lines)
+
+
+def bench_of_event(lines: Sequence[str]) -> str:
+    return "\n".join(("version = 1", "end = 20", "[[event]]", "tick = 9", *lines)) + "\n"

@@ -5,13 +5,17 @@ from enum import IntEnum
 
 import interrupts
 import trace
-from bench import Event
+from bench import Event, PinLevel
+from built import Built
 from bus import Agent, Bus
 from clocks import edges_of
+from debug import Command, DebugPort
 from dma import Dma
+from encapsulation import Encapsulation
 from execute import Done, step
 from fram import Fram
 from interrupts import CPUOFF_BIT, PC, SR
+from latch import Latch
 from memory import Memory
 from ports import Ports
 from protection import Protection
@@ -36,10 +40,7 @@ class BootStep(IntEnum):
 
 
 class Chip:
-    def __init__(
-        self, store: bytearray, fill: int, statistics: Counter, with_timers: bool,
-        with_protection: bool,
-    ):
+    def __init__(self, store: bytearray, fill: int, statistics: Counter, built: Built):
         self.statistics = statistics
         self.number = 0
         self.stopped = False
@@ -56,15 +57,22 @@ class Chip:
         self.dma = Dma(statistics)
         self.timers = ()
         units = [self.system, self.ports, self.watchdog]
-        if with_timers:
+        if built >= Built.TIMERS:
             self.timers = built_timers(statistics, self.dma.trigger_of_timer)
             units += [*self.timers, self.dma]
         self.fram = Fram(self.requests.add)
-        self.protection = Protection(self.requests.add, statistics)
-        if with_protection:
+        latch = Latch(self.requests.add, Cause.PROTECTION_PASSWORD)
+        self.encapsulation = Encapsulation(latch)
+        self.protection = Protection(self.requests.add, latch, self.encapsulation, statistics)
+        if built >= Built.PROTECTION:
             units += [self.fram, self.protection]  # SYSSNIV is no register of `system` then
+        if built >= Built.ENCAPSULATION:
+            units.append(self.encapsulation)
         self.bus = Bus(
-            self.memory, units, self.requests.add, self.protection, with_protection
+            self.memory, units, self.requests.add, self.encapsulation, self.protection, built
+        )
+        self.debug = DebugPort(
+            self.registers, self.bus, self.memory, self.requests.add, self.is_booted, statistics
         )
         self.nmi = interrupts.nmi_of(self.protection)
         self.interrupt_lines = interrupts.lines_of(
@@ -74,16 +82,20 @@ class Chip:
         self.levels = self.ports.levels()
 
     def tick(self, events: list[Event]) -> list[str]:
-        """One tick, and its lines. Where it can't be done, `stopped` says so."""
+        """One tick, and its lines. Where it can't be done, `stopped` says so.
+
+        Of such a tick only the lines stand that came before what can't be done.
+        """
         self.lines = []
         self.power()
         self.stimulus(events)
+        lines_of_events = len(self.lines)
         self.take_edges()
         self.owner_acts()
         self.protection.end_step()
         if self.bus.stopped or self.stopped:
             self.stopped = True
-            return []
+            return self.lines[:lines_of_events]
         self.take_reset()
         self.compare_levels()
         self.number += 1
@@ -96,10 +108,21 @@ class Chip:
 
     def stimulus(self, events: list[Event]) -> None:
         for event in events:
-            self.ports.drive_from_outside(event.pin, event.level)
+            if isinstance(event.act, PinLevel):
+                self.ports.drive_from_outside(event.act.pin, event.act.level)
+            else:
+                self.obey(event.act)
+
+    def obey(self, command: Command) -> None:
+        answer = self.debug.answer(command)
+        if answer is not None:
+            self.lines.append(trace.debug(self.number, command.text(), answer))
+
+    def is_booted(self) -> bool:
+        return self.boot_step is BootStep.NONE
 
     def take_edges(self) -> None:
-        if self.boot_step is not BootStep.NONE:
+        if not self.is_booted():
             return
         edges = edges_of(self.number, self.registers.get(SR))
         if self.watchdog.take(edges):
@@ -110,7 +133,7 @@ class Chip:
     # The bus owner
 
     def owner_acts(self) -> None:
-        if self.boot_step is not BootStep.NONE:
+        if not self.is_booted():
             self.boot_acts()
         elif self.dma.acts(self.bus):
             return
@@ -139,7 +162,11 @@ class Chip:
         if self.busy > 0:
             self.busy -= 1
             return
-        if self.dead:
+        if self.debug.halt_is_pending and not self.is_private():
+            self.halt()
+            return
+        self.statistics["ticks that a halt waits in the seal"] += self.debug.halt_is_pending
+        if self.debug.halted or self.dead:
             return
         status = self.registers.get(SR)
         line = interrupts.accepted(self.nmi, self.interrupt_lines, status)
@@ -149,6 +176,23 @@ class Chip:
             self.statistics["ticks asleep"] += 1
         else:
             self.execute()
+
+    def is_private(self) -> bool:
+        """Whether the processor is at work within the seal, where it can't be halted."""
+        return not self.debug.halted and self.encapsulation.seals(self.registers.get(PC))
+
+    def halt(self) -> None:
+        self.debug.halt()
+        self.lines.append(trace.halt(self.number, self.registers.get(PC)))
+        self.tell_halt()
+
+    def tell_halt(self) -> None:
+        if self.dead:
+            self.statistics["halt of a dead processor"] += 1
+        elif self.registers.get(SR) & CPUOFF_BIT:
+            self.statistics["halt of a processor that is off"] += 1
+        else:
+            self.statistics["halt of a processor at work"] += 1
 
     def enter(self, line: interrupts.Line, status: int) -> None:
         self.statistics[f"entry {line.vector:04X}"] += 1
@@ -173,7 +217,7 @@ class Chip:
         return waits
 
     def execute(self) -> None:
-        self.bus.begin_step(Agent.PROCESSOR)
+        self.bus.begin_step(Agent.PROCESSOR, instruction=self.registers.get(PC))
         outcome = step(self.registers, self.bus)
         self.statistics[f"form {outcome.form}"] += 1
         if isinstance(outcome, Done):
@@ -218,6 +262,8 @@ class Chip:
         self.dma.reset()
         self.fram.reset()
         self.protection.reset(cause)
+        self.encapsulation.reset(cause)
+        self.debug.reset(cause)
 
     # The end of a tick
 

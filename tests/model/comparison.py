@@ -5,6 +5,7 @@ from collections import Counter
 from dataclasses import dataclass
 from pathlib import Path
 
+from built import Built
 from cases import Case, random_case
 from run import Answer, run
 
@@ -21,12 +22,10 @@ class Tried:
     differs: bool
 
 
-def answer_of_model(
-    case: Case, timers: bool, protection: bool, statistics: Counter | None = None
-) -> Answer:
+def answer_of_model(case: Case, built: Built, statistics: Counter | None = None) -> Answer:
     if statistics is None:
         statistics = Counter()
-    return run(case.image_file(), case.bench_file(), statistics, timers, protection)
+    return run(case.image_file(), case.bench_file(), statistics, built)
 
 
 def write_files(case: Case, folder: Path, name: str) -> list[Path]:
@@ -54,12 +53,10 @@ def answer_of_program(program: Path, case: Case, folder: Path) -> Answer:
     return Answer(output, error, finished.returncode)
 
 
-def try_case(
-    program: Path, seed: int, index: int, timers: bool, protection: bool, folder: Path
-) -> Tried:
-    case = random_case(seed, index, timers, protection)
+def try_case(program: Path, seed: int, index: int, built: Built, folder: Path) -> Tried:
+    case = random_case(seed, index, built)
     statistics = Counter()
-    expected = answer_of_model(case, timers, protection, statistics)
+    expected = answer_of_model(case, built, statistics)
     statistics[f"exit {expected.status}"] += 1
     differs = answer_of_program(program, case, folder) != expected
     return Tried(index, case.kind, statistics, differs)

@@ -10,24 +10,23 @@ import sys
 from collections import Counter
 from pathlib import Path
 
+from built import Built
 from run import Answer, run
 
 
-def difference(
-    image: bytes, bench: bytes | None, known: tuple, timers: bool, protection: bool
-) -> str:
+def difference(image: bytes, bench: bytes | None, known: tuple, built: Built) -> str:
     """How the answer differs, as a word, or nothing."""
     try:
-        answer = run(image, bench, Counter(), timers, protection)
+        answer = run(image, bench, Counter(), built)
     except Exception as error:  # a model with a mistake may do anything
         return type(error).__name__
     return "" if answer == Answer(*known) else "differs"
 
 
 def main() -> None:
-    timers, protection, cases = pickle.loads(Path(sys.argv[1]).read_bytes())
+    built, cases = pickle.loads(Path(sys.argv[1]).read_bytes())
     for index, (image, bench, known) in enumerate(cases):
-        how = difference(image, bench, known, timers, protection)
+        how = difference(image, bench, known, built)
         if how:
             print(index, how)
             return

@@ -1,7 +1,7 @@
 """Where the parts of a case's program lie: code in slots of FRAM, and single words as vectors."""
 
 import random
-from dataclasses import dataclass
+from dataclasses import dataclass, field
 
 import assembler
 from image import Segment
@@ -13,6 +13,39 @@ INFORMATION = 0x1800
 INFORMATION_SIZE = 0x200
 
 
+VAULT_DATA_SIZE = 0x80  # the last bytes of the vault, which aren't code
+
+
+@dataclass(frozen=True)
+class Vault:
+    """Code that is to be encapsulated, and data behind it. Both ends can be borders."""
+
+    first: int
+    end: int
+    doors: list[int] = field(default_factory=list)  # where its routines begin
+
+    @property
+    def data(self) -> int:
+        return self.end - VAULT_DATA_SIZE
+
+    def random_address(self, rng: random.Random) -> int:
+        """In it or at its borders."""
+        chance = rng.random()
+        if chance < 0.3:
+            return rng.choice((self.first, self.end)) + rng.randrange(-5, 6)
+        if chance < 0.45:
+            return self.first + rng.randrange(8)
+        if chance < 0.75:
+            return rng.randrange(self.data, self.end)
+        return rng.randrange(self.first, self.end)
+
+    def random_free_address(self, rng: random.Random) -> int:
+        """Where no code lies, but seldom directly behind its end."""
+        if rng.random() < 0.15:
+            return self.end - 4 + rng.randrange(6)
+        return rng.randrange(self.data, self.end)
+
+
 @dataclass
 class Places:
     """Where other parts of the program lie, for what is to be protected."""
@@ -20,6 +53,8 @@ class Places:
     start: int = 0x4400
     nmi: int = 0x4400
     bridge: int = 0x8000  # a border that an instruction lies over
+    vault: Vault | None = None
+    helper: int = 0x4400  # a routine that the vault calls
 
 
 class Code:
@@ -71,6 +106,20 @@ class Program:
         for slot in (bridge - SLOT_SIZE, bridge):
             self.low_slots.remove(slot)
         self.places.bridge = bridge
+
+    def reserve_vault(self, rng: random.Random) -> Vault:
+        """One slot or two, of which no other code gets a part."""
+        slots = self.high_slots if rng.random() < 0.12 else self.low_slots
+        first = rng.choice(slots)
+        if rng.random() < 0.1 and LOW_SLOTS[0] in slots:
+            first = LOW_SLOTS[0]
+        slots.remove(first)
+        end = first + SLOT_SIZE
+        if rng.random() < 0.3 and end in slots:
+            slots.remove(end)
+            end += SLOT_SIZE
+        self.places.vault = Vault(first, end)
+        return self.places.vault
 
     def low_code(self) -> Code:
         """Code below 10000h, where a vector can point."""

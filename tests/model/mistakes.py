@@ -4,6 +4,7 @@ This says how good the cases are: a mistake that none of them finds would be ove
 program too.
 """
 
+import multiprocessing
 import pickle
 import shutil
 import subprocess
@@ -11,6 +12,7 @@ import sys
 import tempfile
 from concurrent.futures import ThreadPoolExecutor
 from dataclasses import dataclass
+from functools import partial
 from pathlib import Path
 
 import mistakes_of_dma
@@ -18,6 +20,7 @@ import mistakes_of_instructions
 import mistakes_of_protection
 import mistakes_of_timers
 import mistakes_of_units
+from built import Built
 from cases import random_case
 from comparison import answer_of_model
 from mistake import Mistake
@@ -32,24 +35,31 @@ class Found:
     case: str  # what find_difference.py printed: an index and how it differs, or "none"
 
 
-def all_mistakes(timers: bool, protection: bool) -> list[Mistake]:
+def all_mistakes(built: Built) -> list[Mistake]:
     mistakes = [*mistakes_of_instructions.MISTAKES, *mistakes_of_units.MISTAKES]
-    if timers:
+    if built < Built.ENCAPSULATION:
+        mistakes += mistakes_of_units.WHILE_UNBUILT
+    if built >= Built.TIMERS:
         mistakes += [*mistakes_of_timers.MISTAKES, *mistakes_of_dma.MISTAKES]
-    if protection:
+    if built >= Built.PROTECTION:
         mistakes += mistakes_of_protection.MISTAKES
+    if built is Built.PROTECTION:
+        mistakes += mistakes_of_protection.WHILE_UNBUILT
     return mistakes
 
 
-def write_cases(path: Path, count: int, seed: int, timers: bool, protection: bool) -> None:
-    """The files of each case, and the answer of the model without a mistake."""
-    cases = []
-    for index in range(count):
-        case = random_case(seed, index, timers, protection)
-        answer = answer_of_model(case, timers, protection)
-        known = (answer.output, answer.error, answer.status)
-        cases.append((case.image_file(), case.bench_file(), known))
-    path.write_bytes(pickle.dumps((timers, protection, cases)))
+def known_case(seed: int, built: Built, index: int) -> tuple:
+    """The files of a case, and the answer of the model without a mistake."""
+    case = random_case(seed, index, built)
+    answer = answer_of_model(case, built)
+    known = (answer.output, answer.error, answer.status)
+    return case.image_file(), case.bench_file(), known
+
+
+def write_cases(path: Path, count: int, seed: int, built: Built, jobs: int) -> None:
+    with multiprocessing.Pool(jobs) as pool:
+        cases = pool.map(partial(known_case, seed, built), range(count), chunksize=4)
+    path.write_bytes(pickle.dumps((built, cases)))
 
 
 def find(mistake: Mistake, cases: Path) -> Found:
@@ -62,14 +72,12 @@ def find(mistake: Mistake, cases: Path) -> Found:
     return Found(mistake, finished.stdout.strip())
 
 
-def try_all(
-    count: int, seed: int, timers: bool, protection: bool, jobs: int, only: str
-) -> int:
+def try_all(count: int, seed: int, built: Built, jobs: int, only: str) -> int:
     """Prints a line for each mistake, and answers 1 where one wasn't found that can be."""
-    mistakes = [mistake for mistake in all_mistakes(timers, protection) if only in mistake.name]
+    mistakes = [mistake for mistake in all_mistakes(built) if only in mistake.name]
     with tempfile.TemporaryDirectory() as folder:
         cases = Path(folder) / "cases"
-        write_cases(cases, count, seed, timers, protection)
+        write_cases(cases, count, seed, built, jobs)
         with ThreadPoolExecutor(jobs) as pool:
             results = list(pool.map(lambda mistake: find(mistake, cases), mistakes))
     for result in results:

@@ -56,10 +56,9 @@ TICKS = (
             "            if channel.is_due():\n                self.second_tick = True\n"
             "                self.channel = channel\n                return True\n"),
     Mistake("dma comes before a boot step", "chip.py",
-            "        if self.boot_step is not BootStep.NONE:\n            self.boot_acts()\n"
-            + TURN,
+            "        if not self.is_booted():\n            self.boot_acts()\n" + TURN,
             "        if self.dma.acts(self.bus):\n            return\n"
-            "        elif self.boot_step is not BootStep.NONE:\n            self.boot_acts()\n",
+            "        elif not self.is_booted():\n            self.boot_acts()\n",
             "a BOR resets DMA, so no transfer is due in a boot and no second tick is left"),
 )
 

@@ -8,12 +8,8 @@ from mistake import Mistake
 NOTE = "        self.noted.add(place)\n"
 COUNT = "        self.accesses_to_fram += 1\n"
 NOT_FRAM = "        if region_of(at) not in FRAM_REGIONS:\n            return False\n"
-NOTE_AND_TELL = """\
+NOTE_TO_FLAGS = """\
         self.noted.add(place)
-        self.tell(f"{agent}'s {right.name.lower()} in {place.name.lower()}")
-        return True
-
-    # Violations
 
     def end_step(self) -> None:
         \"\"\"Behind the last access of a step: sets the flags, and asks for what follows.\"\"\"
@@ -27,7 +23,8 @@ NOTE_AND_TELL = """\
 SET_FLAG = "            self.flags |= 1 << place\n"
 ASK = "            self.ask_for(place)\n"
 FORGET = "        self.noted.clear()\n"
-RESET_OR_NMI = "        if self.bits_of(place) & RESET_BIT:\n"
+RESET_OR_NMI = "        if self.resets(place):\n"
+RESET_BIT_OF_A_SEGMENT = "        return self.bits_of(place) & RESET_BIT != 0\n"
 PLACES = """\
         if address >= self.registers[MPUSEGB2] * BYTES_OF_A_BORDER:
             return Place.SEGMENT_3
@@ -255,7 +252,7 @@ RIGHTS = (
     Mistake("mpu asks for XE at the first word alone", "bus.py",
             "self.read(at, \"w\", Right.FETCH)",
             "self.read(at, \"w\", Right.FETCH if is_first_word else Right.READ)"),
-    Mistake("mpu's RE and WE are exchanged", "protection.py",
+    Mistake("mpu's RE and WE are exchanged", "right.py",
             "    READ = 1\n    WRITE = 2\n", "    READ = 2\n    WRITE = 1\n"),
     Mistake("mpu asks for RE at a write too", "protection.py",
             "        if self.bits_of(place) & right:\n",
@@ -265,9 +262,11 @@ RIGHTS = (
             "        if self.bits_of(place) & right:\n",
             "        if self.bits_of(place) & (5 if right == Right.READ else right):\n"),
     Mistake("mpu judges entries", "bus.py",
-            "JUDGED_AGENTS = (Agent.PROCESSOR, Agent.DMA)", "JUDGED_AGENTS = tuple(Agent)"),
+            "JUDGED_BY_SEGMENTS = (Agent.PROCESSOR, Agent.DMA)",
+            "JUDGED_BY_SEGMENTS = (Agent.PROCESSOR, Agent.ENTRY, Agent.DMA)"),
     Mistake("mpu doesn't judge DMA", "bus.py",
-            "JUDGED_AGENTS = (Agent.PROCESSOR, Agent.DMA)", "JUDGED_AGENTS = (Agent.PROCESSOR,)"),
+            "JUDGED_BY_SEGMENTS = (Agent.PROCESSOR, Agent.DMA)",
+            "JUDGED_BY_SEGMENTS = (Agent.PROCESSOR,)"),
     Mistake("mpu doesn't judge what DMA writes", "bus.py", COUNT,
             COUNT + "        if self.agent is Agent.DMA and right is Right.WRITE:\n"
             "            return False\n"),
@@ -297,8 +296,8 @@ RIGHTS = (
 )
 
 VIOLATIONS = (
-    Mistake("mpu sets its flags at once", "protection.py", NOTE_AND_TELL,
-            NOTE_AND_TELL.replace(SET_FLAG, "").replace(
+    Mistake("mpu sets its flags at once", "protection.py", NOTE_TO_FLAGS,
+            NOTE_TO_FLAGS.replace(SET_FLAG, "").replace(
                 NOTE, NOTE + "        self.flags |= 1 << place\n")),
     Mistake("mpu sets its flags at once and behind the step", "protection.py", NOTE,
             NOTE + "        self.flags |= 1 << place\n"),
@@ -312,14 +311,14 @@ VIOLATIONS = (
             "            self.flags |= (not self.bits_of(place) & RESET_BIT) << place\n"),
     Mistake("mpu sets flags with SEGIE alone", "protection.py", SET_FLAG,
             "            self.flags |= (self.control & NMI_BIT != 0) << place\n"),
-    Mistake("mpu judges VS of the next segment", "protection.py", RESET_OR_NMI,
-            "        if self.bits_of((place + 1) % 4) & RESET_BIT:\n"),
-    Mistake("mpu judges VS of segment 1", "protection.py", RESET_OR_NMI,
-            "        if self.bits_of(Place.SEGMENT_1) & RESET_BIT:\n"),
+    Mistake("mpu judges VS of the next segment", "protection.py", RESET_BIT_OF_A_SEGMENT,
+            "        return self.bits_of((place + 1) % 4) & RESET_BIT != 0\n"),
+    Mistake("mpu judges VS of segment 1", "protection.py", RESET_BIT_OF_A_SEGMENT,
+            "        return self.bits_of(Place.SEGMENT_1) & RESET_BIT != 0\n"),
     Mistake("mpu resets with SEGIE alone", "protection.py", RESET_OR_NMI,
-            "        if self.bits_of(place) & RESET_BIT and self.control & NMI_BIT:\n"),
+            "        if self.resets(place) and self.control & NMI_BIT:\n"),
     Mistake("mpu asks for the NMI before VS", "protection.py", RESET_OR_NMI,
-            "        if self.bits_of(place) & RESET_BIT and not self.control & NMI_BIT:\n"),
+            "        if self.resets(place) and not self.control & NMI_BIT:\n"),
     Mistake("mpu asks for the NMI with a reset too", "protection.py",
             "        elif self.control & NMI_BIT:\n", "        if self.control & NMI_BIT:\n",
             RESET_DROPS),
@@ -395,7 +394,7 @@ NMI = (
             "        self.bus.begin_step(Agent.ENTRY)\n        if line is self.nmi:\n"
             "            line.clear()\n"
             "            line = interrupts.Line(line.vector, line.stands)\n",
-            "no access of an entry is judged by segments, so none asks for the NMI"),
+            "what the accesses of an entry note asks for the NMI behind both, as the step ends"),
     Mistake("mpu's NMI is cleared by the entry of any line", "chip.py", ENTER,
             ENTER + "        self.protection.drop_nmi()\n",
             "the NMI is accepted before all lines, so no line is while it is requested"),
@@ -416,7 +415,11 @@ NMI = (
 
 ADDRESSES = (
     Mistake("fram and mpu leave other addresses unbuilt", "bus.py",
-            "return not self.with_protection or", "return True or"),
+            "return self.built < Built.PROTECTION", "return True"),
+)
+
+# What is otherwise once encapsulation is built.
+WHILE_UNBUILT = (
     Mistake("mpu's encapsulation registers read 0", "bus.py",
             "range(0x05AA, 0x05B0)", "range(0x05AA, 0x05AA)"),
     Mistake("mpu has a STOP at 05B0h too", "bus.py",

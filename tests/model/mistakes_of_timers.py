@@ -223,8 +223,8 @@ INTERRUPTS = (
             '"TA0": (0xFFEA, 0xFFE8), "TA1": (0xFFE2, 0xFFE0)',
             '"TA1": (0xFFEA, 0xFFE8), "TA0": (0xFFE2, 0xFFE0)'),
     Mistake("the timers count in a boot", "chip.py",
-            "        if self.boot_step is not BootStep.NONE:\n            return\n        edges",
-            "        if self.boot_step is not BootStep.NONE:\n"
+            "        if not self.is_booted():\n            return\n        edges",
+            "        if not self.is_booted():\n"
             "            for timer in self.timers:\n"
             "                timer.take(edges_of(self.number, 0))\n"
             "            return\n        edges",

@@ -41,6 +41,8 @@ MEMORY = (
             "        if size == \"w\":\n            at &= ~1\n"
             "        if region_of(at) is Region.PERIPHERALS:\n            self.write_register",
             "        if region_of(at) is Region.PERIPHERALS:\n            self.write_register"),
+)
+UNBUILT = (
     Mistake("a register that isn't built reads 0", "bus.py",
             "            self.stopped = True\n", "            pass\n"),
 )
@@ -251,7 +253,9 @@ INTERRUPTS = (
 
 TICKS = (
     Mistake("the stimulus comes behind the owner", "chip.py",
-            "        self.stimulus(events)\n        self.take_edges()\n        self.owner_acts()\n",
+            "        self.stimulus(events)\n        lines_of_events = len(self.lines)\n"
+            "        self.take_edges()\n        self.owner_acts()\n",
+            "        lines_of_events = len(self.lines)\n"
             "        self.take_edges()\n        self.owner_acts()\n"
             "        self.stimulus(events)\n"),
     Mistake("the edges come behind the owner", "chip.py",
@@ -264,8 +268,7 @@ TICKS = (
             "        if self.boot_step is not BootStep.NONE:\n            return\n"
             "        for event in events:"),
     Mistake("the watchdog counts in a boot", "chip.py",
-            "        if self.boot_step is not BootStep.NONE:\n            return\n        edges",
-            "        edges"),
+            "        if not self.is_booted():\n            return\n        edges", "        edges"),
     Mistake("a boot takes a tick less", "chip.py",
             "self.boot_step = BootStep(self.boot_step + 1)",
             "self.boot_step = BootStep(max(2, self.boot_step + 1))"),
@@ -275,10 +278,6 @@ TICKS = (
     Mistake("FFFFh is a reset vector like others", "chip.py",
             "self.dead = vector == NO_VECTOR", "self.dead = False"),
     Mistake("FFFEh is no reset vector", "chip.py", "NO_VECTOR = 0xFFFF", "NO_VECTOR = 0xFFFE"),
-    Mistake("a dead processor stays dead", "chip.py",
-            "self.dead = vector == NO_VECTOR", "self.dead |= vector == NO_VECTOR",
-            "nothing writes memory while the processor is dead, so the next reset finds the same "
-            "vector FFFFh"),
     Mistake("the reset vector may be odd", "chip.py",
             "self.registers.set(PC, vector & 0xFFFE)", "self.registers.values[PC] = vector"),
     Mistake("CPUOFF comes before interrupts", "chip.py",
@@ -317,7 +316,7 @@ TICKS = (
             "        self.take_reset()\n        self.compare_levels()\n",
             "        self.compare_levels()\n        self.take_reset()\n"),
     Mistake("the lines of a STOP's tick are shown", "chip.py",
-            "            self.stopped = True\n            return []",
+            "            self.stopped = True\n            return self.lines[:lines_of_events]",
             "            self.stopped = True\n            self.take_reset()\n"
             "            self.compare_levels()\n            return self.lines"),
     Mistake("pins are written from bit 0 on", "trace.py",
@@ -325,3 +324,13 @@ TICKS = (
 )
 
 MISTAKES = MEMORY + SYSTEM + WATCHDOG + PORTS + INTERRUPTS + TICKS
+
+# What is otherwise once the debug port and every register are built.
+WHILE_UNBUILT = (
+    Mistake("a register that isn't built reads 0", "bus.py",
+            "            self.stopped = True\n", "            pass\n"),
+    Mistake("a dead processor stays dead", "chip.py",
+            "self.dead = vector == NO_VECTOR", "self.dead |= vector == NO_VECTOR",
+            "nothing writes memory while the processor is dead, so the next reset finds the same "
+            "vector FFFFh"),
+)

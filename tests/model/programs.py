@@ -11,9 +11,11 @@ from dataclasses import dataclass
 import actions
 import assembler
 import dma_actions
+import encapsulation_routines
 import protection_routines
 import timer_actions
 from assembler import Operand, absolute, immediate, indexed, register, two
+from built import Built
 from image import Segment
 from instruction_words import InstructionMaker, Knobs
 from layout import SLOT_SIZE, Code, Program
@@ -33,6 +35,7 @@ UNUSUAL_STACKS = (0x0104, 0x0106, 0x0122, 0x0164, 0x0220, 0x0240, 0x0224, 0x0000
                   0xFFF6, 0xFFDA, 0xFFD4, 0xFFEC, 0xFFEE)
 STACKS_ON_TIMERS = (0x0344, 0x0346, 0x0386, 0x03C6, 0x0354, 0x03C4, 0x03D6, 0x0370, 0x03F0)
 STACKS_ON_PROTECTION = (0x0142, 0x0144, 0x0148, 0x01A0, 0x05A2, 0x05A6, 0x05A8, 0x05AA)
+STACKS_ON_ENCAPSULATION = (0x05AC, 0x05AE, 0x05B0, 0x05B2)
 STACKS_ON_DMA = (0x0512, 0x0514, 0x0510, 0x0524, 0x0534, 0x051E, 0x0540)
 
 WATCHDOG_THAT_RESETS = (0x5A0E, 0x5A0E, 0x5A2F)  # after 512 ticks, or 64 edges of ACLK
@@ -51,26 +54,32 @@ class Style:
     longest_chapter: int = 25
     loops: float = 0.35  # the share of chapters that begin again at their end
     rescued: float = 0.0  # the share of programs that the watchdog resets again and again
+    has_vault: bool = False  # code that is to be encapsulated
 
 
-def random_program(
-    rng: random.Random, style: Style, with_timers: bool, with_protection: bool
-) -> list[Segment]:
+def random_program(rng: random.Random, style: Style, built: Built) -> Program:
     program = Program(rng)
-    if with_protection:
+    if built >= Built.PROTECTION:
         program.reserve_bridge(rng)
+    if style.has_vault:
+        program.reserve_vault(rng)
     start = program.low_code()
-    if with_protection:
+    if built >= Built.PROTECTION:
         program.places.start = start.address
         write_protection(rng, program, start)
+    if style.has_vault:
+        encapsulation_routines.write_helper(rng, program)
+        encapsulation_routines.write_vault(rng, program)
+        encapsulation_routines.write_beginning(rng, start)
+        encapsulation_routines.write_closing_words(rng, program, start)
     chapters = [program.code_anywhere(rng) for _ in range(rng.choice((1, 2, 4, style.chapters)))]
     program.single_words[RESET_VECTOR] = start.address | (rng.random() < 0.1)
-    write_start(rng, program, start, chapters, style, with_timers, with_protection)
+    write_start(rng, program, start, chapters, style, built)
     for chapter in chapters:
         write_chapter(rng, chapter, start, style)
-    write_routines(rng, program, start, style, with_timers)
+    write_routines(rng, program, start, style, built)
     spoil(rng, program)
-    return program.segments()
+    return program
 
 
 def write_protection(rng: random.Random, program: Program, start: Code) -> None:
@@ -105,7 +114,7 @@ def random_action(rng: random.Random, style: Style) -> Action:
 
 def write_start(
     rng: random.Random, program: Program, start: Code, chapters: list[Code], style: Style,
-    with_timers: bool, with_protection: bool,
+    built: Built,
 ) -> None:
     if style.rescued and rng.random() < style.rescued:
         start.put(assembler.store(actions.WDTCTL, rng.choice(WATCHDOG_THAT_RESETS)))
@@ -116,31 +125,33 @@ def write_start(
     if rng.random() < 0.8:
         start.put(assembler.copy(actions.SYSRSTIV, rng.choice(actions.PORT_OUTPUTS)))
     if rng.random() < 0.4:
-        show_what_a_reset_left(rng, start, with_timers)
-    stack = random_stack(rng, with_timers, with_protection)
+        show_what_a_reset_left(rng, start, built)
+    stack = random_stack(rng, built)
     start.put(assembler.set_register(assembler.SP, stack))
     if rng.random() < style.interrupts:
         enable_something(rng, start)
     write_choice(rng, program, start, chapters)
 
 
-def show_what_a_reset_left(rng: random.Random, start: Code, with_timers: bool) -> None:
+def show_what_a_reset_left(rng: random.Random, start: Code, built: Built) -> None:
     for number in rng.sample((0, *range(16)), rng.randrange(3)):
         actions.show_register(rng, start, number)
     for _ in range(rng.randrange(6)):
         port = rng.choice((0x0200, 0x0220)) + rng.choice(actions.PORT_DISTANCES)
         actions.show(rng, start, rng.choice((port, rng.choice(actions.SYSTEM_REGISTERS))))
-        if with_timers:
+        if built >= Built.TIMERS:
             base = rng.choice(tuple(timer_actions.COMPARES_OF_BASE))
             actions.show(rng, start, timer_actions.random_register(rng, base))
             actions.show(rng, start, dma_actions.own_register(rng))
 
 
-def random_stack(rng: random.Random, with_timers: bool, with_protection: bool) -> int:
+def random_stack(rng: random.Random, built: Built) -> int:
     if rng.random() < 0.9:
         return rng.choice((0x2400, 0x2400, 0x2300, 0x2201, 0x12F00))
-    unusual = UNUSUAL_STACKS + (STACKS_ON_TIMERS + STACKS_ON_DMA if with_timers else ())
-    unusual += STACKS_ON_PROTECTION if with_protection else ()
+    unusual = UNUSUAL_STACKS
+    unusual += STACKS_ON_TIMERS + STACKS_ON_DMA if built >= Built.TIMERS else ()
+    unusual += STACKS_ON_PROTECTION if built >= Built.PROTECTION else ()
+    unusual += STACKS_ON_ENCAPSULATION if built >= Built.ENCAPSULATION else ()
     return rng.choice(unusual)
 
 
@@ -269,10 +280,10 @@ def put_stack_on(rng: random.Random, code: Code, flags: int, stack: int) -> None
 # Routines of the interrupts
 
 def write_routines(
-    rng: random.Random, program: Program, start: Code, style: Style, with_timers: bool
+    rng: random.Random, program: Program, start: Code, style: Style, built: Built
 ) -> None:
     vectors = [WATCHDOG_VECTOR, *PORT_OF_VECTOR]
-    if with_timers:
+    if built >= Built.TIMERS:
         vectors += [*FIRST_LINES, *OTHER_LINES, DMA_VECTOR]
     routines: list[Code] = []
     for vector in vectors:

@@ -1,16 +1,18 @@
 """The memory protection unit: segments, rights, violations and SYSSNIV (MACHINE.md).
 
 An access that is refused notes its place. What the places ask for is judged behind the last access
-of the step, by the registers as the step left them.
+of the step, by the registers as the step left them. IP Encapsulation is one of the places.
 """
 
 from collections import Counter
 from collections.abc import Callable
 from enum import IntEnum
 
+from encapsulation import Encapsulation
 from latch import Latch
 from memory import Region, region_of
 from registers_of_units import merged
+from right import Right
 from system import CAUSES_OF_BOR, READ_PASSWORD, SYSSNIV, Cause
 
 MPUCTL0 = 0x05A0
@@ -30,30 +32,26 @@ BYTES_OF_A_BORDER = 16  # the register times this is the address
 BITS_OF_A_PLACE = 4  # in MPUSAM
 
 
-class Right(IntEnum):
-    """What an access needs, by the bit of MPUSAM that gives it."""
-
-    READ = 1
-    WRITE = 2
-    FETCH = 4
-
-
 RESET_BIT = 8  # VS
 
 
 class Place(IntEnum):
-    """Where an access was refused, by the number of its flag and of its bits in MPUSAM."""
+    """Where an access was refused, by the number of its flag.
+
+    Of all but the last it is the number of its bits in MPUSAM too.
+    """
 
     SEGMENT_1 = 0
     SEGMENT_2 = 1
     SEGMENT_3 = 2
     INFORMATION = 3
-    ENCAPSULATION = 4  # nothing notes it so far
+    ENCAPSULATION = 4
 
 
 NUMBERS = {Place.ENCAPSULATION: 0x08, Place.INFORMATION: 0x0A, Place.SEGMENT_1: 0x0C,
            Place.SEGMENT_2: 0x0E, Place.SEGMENT_3: 0x10}
-CAUSES = {Place.INFORMATION: Cause.INFORMATION_VIOLATION,
+CAUSES = {Place.ENCAPSULATION: Cause.ENCAPSULATION_VIOLATION,
+          Place.INFORMATION: Cause.INFORMATION_VIOLATION,
           Place.SEGMENT_1: Cause.SEGMENT_1_VIOLATION,
           Place.SEGMENT_2: Cause.SEGMENT_2_VIOLATION,
           Place.SEGMENT_3: Cause.SEGMENT_3_VIOLATION}
@@ -62,10 +60,14 @@ CAUSES = {Place.INFORMATION: Cause.INFORMATION_VIOLATION,
 class Protection:
     addresses = (MPUCTL0, MPUCTL1, *LOCKED_BITS, SYSSNIV)
 
-    def __init__(self, request: Callable[[Cause], None], statistics: Counter):
+    def __init__(
+        self, request: Callable[[Cause], None], latch: Latch, encapsulation: Encapsulation,
+        statistics: Counter,
+    ):
         self.request = request
+        self.latch = latch
+        self.encapsulation = encapsulation
         self.statistics = statistics
-        self.latch = Latch(request, Cause.PROTECTION_PASSWORD)
         self.noted: set[Place] = set()
         self.reset(Cause.POWER_ON)
 
@@ -139,11 +141,14 @@ class Protection:
         place = self.place_of(address)
         if self.bits_of(place) & right:
             return False
-        self.noted.add(place)
-        self.tell(f"{agent}'s {right.name.lower()} in {place.name.lower()}")
+        self.note(place)
+        self.tell_of_refused(place, right, agent)
         return True
 
     # Violations
+
+    def note(self, place: Place) -> None:
+        self.noted.add(place)
 
     def end_step(self) -> None:
         """Behind the last access of a step: sets the flags, and asks for what follows."""
@@ -157,16 +162,25 @@ class Protection:
         self.noted.clear()
 
     def ask_for(self, place: Place) -> None:
-        if self.bits_of(place) & RESET_BIT:
+        if self.resets(place):
             self.request(CAUSES[place])
         elif self.control & NMI_BIT:
             self.nmi_is_requested = True
+
+    def resets(self, place: Place) -> bool:
+        """Whether a violation there asks for a reset."""
+        if place is Place.ENCAPSULATION:
+            return self.encapsulation.resets()
+        return self.bits_of(place) & RESET_BIT != 0
 
     def nmi_stands(self) -> bool:
         return self.nmi_is_requested
 
     def drop_nmi(self) -> None:
         self.nmi_is_requested = False
+
+    def tell_of_refused(self, place: Place, right: Right, agent: str) -> None:
+        self.tell(f"{agent}'s {right.name.lower()} in {place.name.lower()}")
 
     def tell(self, what: str) -> None:
         self.statistics[f"protection: {what}"] += 1

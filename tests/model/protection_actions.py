@@ -16,7 +16,7 @@ MPUCTL0, MPUCTL1, MPUSEGB2, MPUSEGB1, MPUSAM = 0x05A0, 0x05A2, 0x05A4, 0x05A6, 0
 SYSSNIV = actions.SYSSNIV
 REGISTERS = (MPUCTL0, MPUCTL1, MPUSEGB2, MPUSEGB1, MPUSAM, SYSSNIV)
 FRAM_REGISTERS = (FRCTL0, 0x0142, GCCTL0, GCCTL1)
-# Addresses without a register, and behind them those of IP Encapsulation, which are a STOP.
+# Addresses without a register. Those of IP Encapsulation are a STOP where it isn't built yet.
 NOWHERE = (0x0000, 0x0002, 0x00FE, 0x0104, 0x011E, 0x0122, 0x0132, 0x013E, 0x0148, 0x015A, 0x015E,
            0x016E, 0x0182, 0x019A, 0x01A0, 0x01FE, 0x0240, 0x033E, 0x0370, 0x03B0, 0x03F0, 0x04FE,
            0x0540, 0x059E, 0x05B0, 0x05C0, 0x0640, 0x0FFE)
@@ -55,6 +55,8 @@ def random_border(rng: random.Random, code: Code) -> int:
 
 
 def address_in_fram(rng: random.Random, code: Code) -> int:
+    if code.places.vault and rng.random() < 0.6:
+        return code.places.vault.random_address(rng)
     chance = rng.random()
     if chance < 0.22:
         return INFORMATION + rng.randrange(INFORMATION_SIZE)
@@ -69,6 +71,8 @@ def address_in_fram(rng: random.Random, code: Code) -> int:
 
 def free_address_in_fram(rng: random.Random, code: Code) -> int:
     """Where seldom code lies: behind what most slots hold, and the end of information FRAM."""
+    if code.places.vault and rng.random() < 0.6:
+        return code.places.vault.random_free_address(rng)
     if rng.random() < 0.25:
         return INFORMATION + INFORMATION_SIZE - 1 - rng.randrange(0x30)
     if rng.random() < 0.25:

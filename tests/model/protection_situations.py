@@ -99,6 +99,8 @@ def access_data(rng: random.Random, code: Code) -> None:
 # The stack
 
 def random_stack_in_fram(rng: random.Random, code: Code) -> int:
+    if code.places.vault and rng.random() < 0.6:
+        return code.places.vault.end + rng.choice((0, 0, 2, 4, 1, -rng.randrange(0x60)))
     if rng.random() < 0.7:
         return code.places.bridge + rng.randrange(-8, 24)
     return rng.choice((0x1A00, 0x19FD, 0x14000, 0x10006, 0x1808, free_address_in_fram(rng, code)))

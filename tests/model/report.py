@@ -21,6 +21,7 @@ def report(kinds: Counter, statistics: Counter) -> str:
     lines += dma_lines(starting(statistics, "dma "))
     lines.append(f"interrupts of DMA: {entries['FFE4']}")
     lines += protection_lines(statistics)
+    lines += debug_lines(statistics)
     return "\n".join(wrapped(line) for line in lines) + "\n"
 
 
@@ -65,6 +66,18 @@ def protection_lines(statistics: Counter) -> list[str]:
         f"what else protection did: {listed(others)}",
         f"NMIs: {statistics['entry FFFC']} ({listed(starting(statistics, 'nmi '))})",
         f"waits: {waits.total()}, {listed(waits)}",
+    ]
+
+
+def debug_lines(statistics: Counter) -> list[str]:
+    commands = starting(statistics, "debug ")
+    halts = starting(statistics, "halt ")
+    return [
+        f"commands of the debug port: {commands.total()}, by command and answer: "
+        f"{listed(commands)}",
+        f"halts: {halts.total()}, by what they met: {listed(halts)}",
+        f"ticks in which a halt waited for the way out of the seal: "
+        f"{statistics['ticks that a halt waits in the seal']}",
     ]
 
 

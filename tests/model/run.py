@@ -7,6 +7,7 @@ import bench as benches
 import image as images
 import trace
 from bench import Bench
+from built import Built
 from chip import Chip
 
 LONGEST_IMAGE = 4_194_304
@@ -25,10 +26,7 @@ BAD_IMAGE = Answer("", "capsule: bad image\n", 6)
 BAD_BENCH = Answer("", "capsule: bad bench\n", 7)
 
 
-def run(
-    image: bytes, bench: bytes | None, statistics: Counter, with_timers: bool = True,
-    with_protection: bool = True,
-) -> Answer:
+def run(image: bytes, bench: bytes | None, statistics: Counter, built: Built) -> Answer:
     """The answer for the files of an image and of a bench, or of no bench."""
     if len(image) > LONGEST_IMAGE:
         return TOO_LONG
@@ -37,23 +35,18 @@ def run(
     except images.Refused:
         return BAD_IMAGE
     if bench is None:
-        text = whole_trace(store, Bench(), statistics, with_timers, with_protection)
-        return Answer(text, "", 0)
+        return Answer(whole_trace(store, Bench(), statistics, built), "", 0)
     if len(bench) > LONGEST_BENCH:
         return TOO_LONG
-    longest = benches.END_WITH_TIMERS if with_timers else benches.END_WITHOUT_TIMERS
     try:
-        right_bench = benches.bench_of_text(bench, longest)
+        right_bench = benches.bench_of_text(bench, built)
     except benches.Refused:
         return BAD_BENCH
-    text = whole_trace(store, right_bench, statistics, with_timers, with_protection)
-    return Answer(text, "", 0)
+    return Answer(whole_trace(store, right_bench, statistics, built), "", 0)
 
 
-def whole_trace(
-    store: bytearray, bench: Bench, statistics: Counter, with_timers: bool, with_protection: bool
-) -> str:
-    chip = Chip(store, bench.fill, statistics, with_timers, with_protection)
+def whole_trace(store: bytearray, bench: Bench, statistics: Counter, built: Built) -> str:
+    chip = Chip(store, bench.fill, statistics, built)
     events = bench.events_of_ticks()
     lines: list[str] = []
     for tick in range(bench.end):

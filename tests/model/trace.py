@@ -15,6 +15,14 @@ def boot(tick: int) -> str:
     return line(tick, "BOOT 00 00000 00000")
 
 
+def debug(tick: int, command: str, answer: str) -> str:
+    return line(tick, f"DBG {command} {answer}")
+
+
+def halt(tick: int, counter: int) -> str:
+    return line(tick, f"HALT {counter:05X}")
+
+
 def reset(tick: int, cause: int) -> str:
     return line(tick, f"RST {cause:02X}")
 
