@@ -15,7 +15,9 @@ from dataclasses import dataclass
 from functools import partial
 from pathlib import Path
 
+import mistakes_of_debug
 import mistakes_of_dma
+import mistakes_of_encapsulation
 import mistakes_of_instructions
 import mistakes_of_protection
 import mistakes_of_timers
@@ -45,6 +47,8 @@ def all_mistakes(built: Built) -> list[Mistake]:
         mistakes += mistakes_of_protection.MISTAKES
     if built is Built.PROTECTION:
         mistakes += mistakes_of_protection.WHILE_UNBUILT
+    if built >= Built.ENCAPSULATION:
+        mistakes += [*mistakes_of_encapsulation.MISTAKES, *mistakes_of_debug.MISTAKES]
     return mistakes
 
 
