@@ -25,7 +25,7 @@ use Rattle.access_laws.proofs.Seen.{AreAlike-seen, seen, seen-AreAlike, seen-mem
 
 -- ---- its course
 
-right_of-Boot : (units : Units) (kind : Kind) (at : ℕ) → right_of units Boot kind at ≡ Yes
+pub right_of-Boot : (units : Units) (kind : Kind) (at : ℕ) → right_of units Boot kind at ≡ Yes
 unfolding right_of allows
 right_of-Boot units kind at = grind (arith, nat_tests)
 
@@ -47,7 +47,7 @@ fram-region : (at : ℕ) → is_fram at ≡ true → keeps_without_power (region
 unfolding is_fram
 fram-region at fram = fram
 
-course-Boot :
+pub course-Boot :
     (units : Units) (kind : Kind) (at : ℕ) (size : Size) → is_fram at ≡ true →
     course_of units Boot kind at size ≡ ToMemory
 course-Boot units kind at size fram =
@@ -90,7 +90,7 @@ AgreeOff-same :
 AgreeOff-same seal at a a' b b' p q agree =
     subst (AgreeOff seal at a) (sym q) (subst (λ o. AgreeOff seal at o b') (sym p) agree)
 
-present-Boot :
+pub present-Boot :
     (course : Course) (kind : Kind) (at : ℕ) (size : Size) (value : ℕ) (part : BusPart) →
     course_of part.units Boot kind at size ≡ course →
     access_present Boot kind at size value part ≡ present_on course Boot kind at size value part

@@ -72,7 +72,7 @@ access_present-public who kind at size value part fair =
 
 -- ---- wherever its instruction stands
 
-inside-locked : (encap : Encap) (ia : ℕ) → is_in (seal encap) ia ≡ true → is_locked encap ≡ true
+pub inside-locked : (encap : Encap) (ia : ℕ) → is_in (seal encap) ia ≡ true → is_locked encap ≡ true
 inside-locked encap ia inside = grind (arith, is_in-nowhere ia)
 
 -- off the area one instruction has the rights of another
@@ -157,7 +157,7 @@ present-outside who kind at size value part settled inside even outside =
 
 -- ---- two of them
 
-public-twice : (part : BusPart) → public_part part ≡ public_part (public_part part)
+pub public-twice : (part : BusPart) → public_part part ≡ public_part (public_part part)
 public-twice part = ap (λ m. record (public_part part) { memory = m }) (sym (hidden-twice part.kept part.memory))
 
 absent-public :

@@ -9,3 +9,4 @@ pub mod Settling
 pub mod Stepping
 pub mod Booting
 pub mod Opening
+pub mod Guarding

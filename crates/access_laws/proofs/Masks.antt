@@ -52,7 +52,7 @@ pub is_in-high : (seal : Seal) (at : ℕ) → is_in seal at ≡ true → 0x4400 
 unfolding is_in
 is_in-high seal at inside = grind (arith, nat_tests)
 
-is_in-next :
+pub is_in-next :
     (seal : Seal) (at : ℕ) → HasBorders seal → at % 2 ≡ 0 → is_in seal (at + 1) ≡ is_in seal at
 unfolding is_in
 is_in-next seal at borders even = grind (arith, nat_tests, borders.low, borders.high)
@@ -130,13 +130,13 @@ pub hidden-twice : (seal : Seal) (memory : List ℕ) → hidden seal (hidden sea
 unfolding hidden
 hidden-twice seal memory = hidden_from-twice seal 0 memory
 
-hidden-get :
+pub hidden-get :
     (seal : Seal) (memory : List ℕ) (at : ℕ) → is_in seal at ≡ false →
     slice_index (hidden seal memory) at ≡ slice_index memory at
 unfolding hidden
 hidden-get seal memory at outside = hidden_from-get seal 0 memory at (from_zero seal at false outside)
 
-hidden-set :
+pub hidden-set :
     (seal : Seal) (memory : List ℕ) (at value : ℕ) → is_in seal at ≡ false →
     hidden seal (slice_set memory at value) ≡ slice_set (hidden seal memory) at value
 unfolding hidden

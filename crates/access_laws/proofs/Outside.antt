@@ -22,7 +22,7 @@ use Rattle.access_laws.proofs.Masks.{aligned-aligned, is_in-nowhere}
 use Rattle.access_laws.proofs.Seen.{AgreeSeen, AreAlike-seen, IsFair, access-seen, seen, seen-AreAlike}
 
 -- an address that an agent outside the seal has a right to isn't of the seal
-right_of-outside :
+pub right_of-outside :
     (units : Units) (who : Agent) (kind : Kind) (at : ℕ) → IsOutside units.encap who →
     right_of units who kind at ≡ Yes → is_in (seal units.encap) at ≡ false
 unfolding right_of allows
@@ -42,7 +42,7 @@ right-ToMemory low Yes who kind at size reaches = refl
 right-ToMemory true (No place) who kind at size reaches = cc
 right-ToMemory false (No place) who kind at size reaches = cc
 
-outside-IsFair :
+pub outside-IsFair :
     (who : Agent) (kind : Kind) (at : ℕ) (size : Size) (part : BusPart) → IsSettled part →
     IsOutside (part.units).encap who →
     IsFair (course_of part.units who kind (aligned size at) size) (aligned size at) size part

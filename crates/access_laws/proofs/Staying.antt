@@ -34,7 +34,7 @@ same_encap x y control second first =
     ∙ ap (λ s. made y.mpuipc0 s x.mpuipsegb1) second
     ∙ ap (made y.mpuipc0 y.mpuipsegb2) first
 
-encap_written-locked :
+pub encap_written-locked :
     (encap : Encap) (is_open : Bool) (at : ℕ) (size : Size) (value : ℕ) → is_locked encap ≡ true →
     encap_written encap is_open at size value ≡ encap
 unfolding encap_written

@@ -26,7 +26,7 @@ pub record IsShut (who : Agent) (part : BusPart) : Type 0 where
   pub locked : is_locked (part.units).encap ≡ true
   pub outside : IsOutside (part.units).encap who
 
-access-IsShut :
+pub access-IsShut :
     (who : Agent) (kind : Kind) (at : ℕ) (size : Size) (value : ℕ) (part : BusPart) → IsShut who part →
     IsShut who (access who kind at size value part).part
 access-IsShut who kind at size value part is =

@@ -7,7 +7,7 @@
 ghost use Rattle.access_laws.specs.Boots.{BootSeesPublic, OpenedTellsAll};
 ghost use Rattle.access_laws.specs.Locality.{InsideIsHidden, InsideSeesPublic, OutsideSeesPublic};
 ghost use Rattle.access_laws.specs.Replay.{PrivateStepIsReplayed};
-ghost use Rattle.access_laws.specs.Steps.{PublicStepSeesPublic, StepKeepsSeal};
+ghost use Rattle.access_laws.specs.Steps.{PublicStepKeepsBytes, PublicStepSeesPublic, StepKeepsSeal};
 
 /// What an access by an entry, DMA, the debugger or code outside the seal answers and changes goes by the public part
 /// alone: no byte of the seal reaches it.
@@ -39,6 +39,12 @@ pub fn private_step_is_replayed()
 #[tactic(auto, using(crate::proofs::Stepping::public_step_sees_public))]
 pub fn public_step_sees_public()
     ensures { PublicStepSeesPublic }
+{}
+
+/// A step from outside the seal, by code there, an entry, DMA or the debugger, leaves each byte of the seal as it was.
+#[tactic(auto, using(crate::proofs::Guarding::public_step_keeps_bytes))]
+pub fn public_step_keeps_bytes()
+    ensures { PublicStepKeepsBytes }
 {}
 
 /// With power on and the boot done no step makes the addresses that stay secret others than those of the seal.
