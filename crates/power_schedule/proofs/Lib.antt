@@ -1,0 +1,4 @@
+pub mod FirstIndex
+pub mod LastBegun
+pub mod Order
+pub mod Unpowered

@@ -1,0 +1,17 @@
+//! Laws of the power of a run, from its definition alone. The contract of each function is a law. The functions do
+//! nothing.
+
+ghost use Rattle.power_schedule.specs.Laws.{FirstTickIsNotOff, OffNeverFollowsOn};
+
+/// A tick without power never follows one with power on: a tick that is cut stands between. This takes no order of
+/// the cuts.
+#[tactic(auto, using(crate::proofs::Unpowered::off_never_follows_on))]
+pub fn off_never_follows_on()
+    ensures { OffNeverFollowsOn }
+{}
+
+/// The first tick of a run is on or cut.
+#[tactic(auto, using(crate::proofs::Unpowered::first_tick_is_not_off))]
+pub fn first_tick_is_not_off()
+    ensures { FirstTickIsNotOff }
+{}

@@ -1,0 +1,94 @@
+ghost use Rattle.std.specs.Prelude.{◌≡◌, ◌≢◌, ◌≤◌, [], ◌∷◌, All, IfOk, length};
+ghost use Rattle.power_schedule.specs.Cuts.{AreOrdered, HaveBegun, IsInReach, most_cuts, schedule_of};
+ghost use Rattle.power_schedule.specs.Powers.{power_at};
+
+use crate::cuts::Cut;
+use crate::powers::Power;
+use crate::refusals::ScheduleRefused;
+use std::alloc::Global;
+use std::marker::Model;
+
+/// The cuts of a run.
+///
+/// Contracts see it as the list of its cuts, which are in order.
+#[derive(Debug, Drop)]
+pub struct Schedule {
+    cuts: Vec<Cut>,
+}
+
+impl Model for Schedule {
+    ghost use Rattle.std.specs.Prelude.{List};
+    ghost use Rattle.power_schedule.specs.Cuts.{AreOrdered};
+    ghost use Rattle.power_schedule.specs.declared.cuts.Cut.{Cut};
+
+    ghost Value = { List Cut };
+
+    ghost view = { λ schedule. schedule.cuts.items };
+
+    ghost invariant = { λ schedule. AreOrdered schedule.cuts.items };
+}
+
+impl Schedule {
+    /// The schedule of some cuts, or the refusal of the first one that comes too early.
+    pub fn build(alloc: Global, cuts: &[Cut]) -> Result<Schedule, ScheduleRefused>
+        requires few { length cuts.now ≤ most_cuts }
+        requires in_reach { All IsInReach cuts.now }
+        ensures schedule { result ≢ Err ScheduleRefused.NoMemory
+            → result ≡ schedule_of cuts.now }
+        ensures ordered { IfOk result AreOrdered }
+    {
+        for index in 1..cuts.len() {
+            let before = cuts[index - 1];
+            if cuts[index].tick <= before.tick + before.off {
+                return Err(ScheduleRefused::BadCut(index as u32));
+            }
+        }
+        match cuts.to_vec(alloc) {
+            Ok(cuts) => Ok(Schedule { cuts }),
+            Err(_) => Err(ScheduleRefused::NoMemory),
+        }
+    }
+
+    /// What the supply does in a tick.
+    pub fn at(&self, tick: u32) -> Power
+        ensures power { result ≡ power_at self.now tick }
+        ensures ordered { AreOrdered self.now }
+    {
+        power_of(&self.cuts, tick)
+    }
+}
+
+/// How many cuts have begun by a tick, which are the first ones.
+fn count_begun(cuts: &[Cut], tick: u32) -> usize
+    requires { AreOrdered cuts.now }
+    ensures within { result ≤ length cuts.now }
+    ensures begun { HaveBegun tick cuts.now result }
+{
+    cuts.partition_point(|cut| cut.tick <= tick)
+}
+
+/// What the supply does in a tick.
+fn power_of(cuts: &[Cut], tick: u32) -> Power
+    requires { AreOrdered cuts.now }
+    ensures { result ≡ power_at cuts.now tick }
+{
+    match cuts[..count_begun(cuts, tick)].last() {
+        Some(cut) => power_behind(cut, tick),
+        None => Power::On,
+    }
+}
+
+/// What the supply does in a tick, by the one cut that has begun last.
+#[tactic(auto, unfolding(crate::specs::Powers::power_at))]
+fn power_behind(cut: &Cut, tick: u32) -> Power
+    requires begun { (cut.now).tick ≤ tick }
+    ensures { result ≡ power_at (cut.now ∷ []) tick }
+{
+    if tick == cut.tick {
+        Power::Cut(cut.writes)
+    } else if tick - cut.tick <= cut.off {
+        Power::Off
+    } else {
+        Power::On
+    }
+}

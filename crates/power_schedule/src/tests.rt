@@ -1,0 +1,53 @@
+use crate::{Cut, Power, Schedule, ScheduleRefused};
+use std::test::Fail;
+
+fn cut(tick: u32, writes: u32, off: u32) -> Cut {
+    Cut { tick, writes, off }
+}
+
+#[test]
+fn tells_the_power_of_each_tick(rt: HostRuntime) -> Result<(), Fail> {
+    let schedule = Schedule::build(rt.alloc(), &[cut(10, 0, 5), cut(16, 0, 1)])?;
+    for (from, to, want) in [
+        (0, 10, Power::On),
+        (10, 11, Power::Cut(0)),
+        (11, 16, Power::Off),
+        (16, 17, Power::Cut(0)),
+        (17, 18, Power::Off),
+        (18, 30, Power::On),
+    ] {
+        for tick in from..to {
+            assert_eq!(rt; schedule.at(tick), want, "{tick}");
+        }
+    }
+    assert_eq!(rt; schedule.at(u32::MAX), Power::On);
+    let none = Schedule::build(rt.alloc(), &[])?;
+    assert_eq!(rt; none.at(0), Power::On);
+    let first = Schedule::build(rt.alloc(), &[cut(0, 64, 10_000_000), cut(10_000_000, 3, 0)]);
+    assert_eq!(rt; first.err(), Some(ScheduleRefused::BadCut(1)));
+    let long = Schedule::build(rt.alloc(), &[cut(0, 64, 9_999_999), cut(10_000_000, 3, 0)])?;
+    assert_eq!(rt; long.at(0), Power::Cut(64));
+    assert_eq!(rt; long.at(9_999_999), Power::Off);
+    assert_eq!(rt; long.at(10_000_000), Power::Cut(3));
+    assert_eq!(rt; long.at(10_000_001), Power::On);
+    Ok(())
+}
+
+#[test]
+fn refuses_the_first_cut_that_comes_too_early(rt: HostRuntime) -> Result<(), Fail> {
+    for (cuts, index) in [
+        ([cut(10, 0, 5), cut(15, 0, 1), cut(15, 0, 1)], 1),
+        ([cut(10, 0, 5), cut(16, 0, 1), cut(17, 0, 1)], 2),
+        ([cut(10, 0, 5), cut(16, 0, 1), cut(9, 0, 1)], 2),
+        ([cut(10, 0, 5), cut(10, 0, 5), cut(30, 0, 1)], 1),
+    ] {
+        let refused = Schedule::build(rt.alloc(), &cuts).err();
+        assert_eq!(rt; refused, Some(ScheduleRefused::BadCut(index)));
+    }
+    let refused = ScheduleRefused::BadCut(1);
+    assert_eq!(rt;
+        format!(in rt.alloc(); "{refused}")?.as_str(),
+        "cut 1 comes too early"
+    );
+    Ok(())
+}
