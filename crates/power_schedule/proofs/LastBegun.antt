@@ -1,5 +1,5 @@
 -- The power of a tick by the last cut that has begun.
-use Rattle.std.proofs.Common.{◌≡◌, ◌∙◌, add-one, ℕ, zero, suc, true, false, ◌+◌, ◌<◌, ◌≤◌, ◌-◌, ◌&&◌, nat_le, List, [], ◌∷◌, length, get_or, take, find, None, refl, ap, sym, arith}
+use Rattle.std.proofs.Common.{◌≡◌, ◌∙◌, add-one, ℕ, zero, suc, false, ◌<◌, ◌≤◌, ◌-◌, List, [], ◌∷◌, length, get_or, take, find, None, refl, ap, sym, arith}
 use Rattle.std.proofs.lemmas.Bool.Decides.{nat_tests}
 use Rattle.std.proofs.lemmas.List.{get_or-take, length-take-le}
 use Rattle.power_schedule.specs.declared.cuts.Cut.{Cut}

@@ -1,12 +1,12 @@
 -- Which lists of cuts are in order, and the first cut that comes too early.
-use Rattle.std.proofs.Common.{◌≡◌, ℕ, true, false, ◌+◌, ◌-◌, ◌<◌, ◌≤◌, nat_le, nat_lt, List, length, get_or, Some, None, Ok, Err, refl, ap, sym, arith}
+use Rattle.std.proofs.Common.{◌≡◌, ℕ, true, false, ◌+◌, ◌-◌, ◌<◌, nat_le, nat_lt, List, length, get_or, Ok, Err, refl, ap, arith}
 use Rattle.std.proofs.lemmas.Bool.Decides.{nat_tests}
 use Rattle.std.proofs.lemmas.Option.{slice_get-get_or}
 use Rattle.std.proofs.lemmas.List.Sorted.{IsNonDecreasingBy-from_all_adjacent}
 use Rattle.std.specs.List.Sorted.{IsNonDecreasingBy}
 use Rattle.power_schedule.specs.declared.cuts.Cut.{Cut}
 use Rattle.power_schedule.specs.declared.refusals.ScheduleRefused.TheVariants.{BadCut}
-use Rattle.power_schedule.specs.Cuts.{AreOrdered, first_early, is_early, judged, last_tick, schedule_of}
+use Rattle.power_schedule.specs.Cuts.{AreOrdered, is_early, judged, last_tick, schedule_of}
 use Rattle.power_schedule.proofs.FirstIndex.{find-range, find-range_none}
 
 -- a cut with one before it

@@ -1,11 +1,10 @@
 -- Where a tick is without power, and what the tick before it is.
-use Rattle.std.proofs.Common.{◌≡◌, ℕ, Bool, true, false, cond, ◌+◌, ◌≤◌, ◌&&◌, ◌==◌, nat_le, List, [], ◌∷◌, find, Option, Some, None, inl, inr, refl, sym, arith}
+use Rattle.std.proofs.Common.{◌≡◌, ℕ, Bool, true, false, cond, ◌+◌, ◌==◌, List, [], ◌∷◌, find, inl, inr, refl, arith}
 use Rattle.std.specs.Prelude.{◌≢◌}
 use Rattle.std.proofs.lemmas.Bool.{cases_Bool}
 use Rattle.std.proofs.lemmas.Bool.Decides.{nat_tests}
 use Rattle.power_schedule.specs.declared.cuts.Cut.{Cut}
 use Rattle.power_schedule.specs.declared.powers.Power.TheVariants as power
-use Rattle.power_schedule.specs.Cuts.{last_tick}
 use Rattle.power_schedule.specs.Laws.{FirstTickIsNotOff, OffNeverFollowsOn}
 use Rattle.power_schedule.specs.Powers.{is_within, power_at, power_by}
 

@@ -1,8 +1,8 @@
-use Rattle.std.proofs.Common.{◌≡◌, ◌∙◌, ℕ, true, false, nat_le, ◌<◌, ◌≤◌, ◌+◌, ◌-◌, List, length, get_or, Ok, inl, inr, refl, sym, ap, arith}
+use Rattle.std.proofs.Common.{◌≡◌, ◌∙◌, ℕ, true, false, nat_le, ◌-◌, get_or, Ok, sym, ap, arith}
 use Rattle.std.proofs.lemmas.Bool.Decides.{nat_tests}
 use Rattle.power_schedule.specs.declared.cuts.Cut.{Cut}
-use Rattle.power_schedule.specs.Cuts.{AreOrdered, is_early, last_tick}
-use Rattle.power_schedule.proofs.Order.{AreOrdered-from_none_early, is_early-behind, is_early-first, schedule_of-refused, schedule_of-taken}
+use Rattle.power_schedule.specs.Cuts.{is_early, last_tick}
+use Rattle.power_schedule.proofs.Order.{AreOrdered-from_none_early, is_early-behind, schedule_of-refused, schedule_of-taken}
 use Rattle.power_schedule.proofs.schedules.Schedule.build.Goals as goal
 use borrow.Author.Count.{below_more}
 
