@@ -1,7 +1,7 @@
-//! Laws of the power of a run, from its definition alone. The contract of each function is a law. The functions do
+//! Laws of the cuts and of the power of a run, from their definitions alone. The contract of each function is a law. The functions do
 //! nothing.
 
-ghost use Rattle.power_schedule.specs.Laws.{FirstTickIsNotOff, OffNeverFollowsOn};
+ghost use Rattle.power_schedule.specs.Laws.{FirstTickIsNotOff, OffNeverFollowsOn, OrderedCutsAreTaken};
 
 /// A tick without power never follows one with power on: a tick that is cut stands between. This takes no order of
 /// the cuts.
@@ -14,4 +14,10 @@ pub fn off_never_follows_on()
 #[tactic(auto, using(crate::proofs::Unpowered::first_tick_is_not_off))]
 pub fn first_tick_is_not_off()
     ensures { FirstTickIsNotOff }
+{}
+
+/// Cuts whose stretches stand one behind another are a schedule: none of them is refused.
+#[tactic(auto, using(crate::proofs::Order::ordered_cuts_are_taken))]
+pub fn ordered_cuts_are_taken()
+    ensures { OrderedCutsAreTaken }
 {}
