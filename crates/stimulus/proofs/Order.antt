@@ -1,5 +1,5 @@
 -- What holds of events behind which one more comes.
-use Rattle.std.proofs.Common.{◌≡◌, ℕ, true, false, Bool, IsTrue, ◌-◌, ◌<◌, ◌≤◌, ◌==◌, cond, nat_lt, nat_le, List, [], ◌∷◌, ◌++◌, length, get_or, inl, inr, refl, ap, arith, length-append}
+use Rattle.std.proofs.Common.{◌≡◌, ℕ, All, true, false, Bool, IsTrue, ◌-◌, ◌<◌, ◌≤◌, ◌==◌, cond, nat_lt, nat_le, List, [], ◌∷◌, ◌++◌, length, get_or, inl, inr, refl, ap, arith, length-append}
 use Rattle.std.proofs.lemmas.Bool.{and_parts, cases_Bool, leb-true}
 use Rattle.std.proofs.lemmas.Bool.Decides.{nat_tests}
 use Rattle.std.proofs.lemmas.List.Elements.{All-push, All-nil, filter-append}
@@ -8,6 +8,9 @@ use Rattle.std.proofs.lemmas.List.Sums.{AllPass-from_list_all, list_all-from_All
 use Rattle.std.proofs.lemmas.List.Sorted.{IsNonDecreasingBy-push, IsNonDecreasingBy-short}
 use Rattle.std.specs.List.{list_all}
 use Rattle.std.specs.List.Sorted.{IsNonDecreasingBy}
+use Rattle.power_schedule.specs.declared.cuts.Cut.{Cut}
+use Rattle.power_schedule.specs.Cuts.{AreOrdered}
+use Rattle.stimulus.specs.Cuts.{IsCut}
 use Rattle.stimulus.specs.declared.events.Event.{Event}
 use Rattle.stimulus.specs.Events.{IsEvent, may_follow, most_on_tick, none_after, on_tick}
 use Rattle.stimulus.specs.Stimulus.{IsBench, Stimulus, greatest_end, with_event}
@@ -61,6 +64,8 @@ IsBench-push bench event known follows before is_event =
       few_on_tick = λ tick. few_on_tick-push bench.events event tick has_room (known.few_on_tick tick);
       before_end = All-push (λ (event : Event). event.tick < bench.end) bench.events event known.before_end before;
       in_range = All-push IsEvent bench.events event known.in_range is_event;
+      cuts_in_range = known.cuts_in_range;
+      cuts_in_order = known.cuts_in_order;
     }
 
 -- the same of a push that may find no memory
@@ -69,9 +74,9 @@ IsBench-pushed bench event true events known follows before is_event e = rw e (I
 IsBench-pushed bench event false events known follows before is_event e = rw e known
 
 -- a bench with no event
-pub IsBench-plain : (end fill : ℕ) (events : List Event) → 1 ≤ end → end ≤ greatest_end → fill < 256 → events ≡ [] → IsBench (record { end = end; fill = fill; events = events })
+pub IsBench-plain : (end fill : ℕ) (events : List Event) (cuts : List Cut) → 1 ≤ end → end ≤ greatest_end → fill < 256 → events ≡ [] → All (IsCut end) cuts → AreOrdered cuts → IsBench (record { end = end; fill = fill; events = events; cuts = cuts })
 unfolding on_tick
-IsBench-plain end fill events some few byte e = rw e (record {
+IsBench-plain end fill events cuts some few byte e in_range in_order = rw e (record {
   some_ticks = some;
   few_ticks = few;
   fill_is_byte = omega arith;
@@ -79,4 +84,20 @@ IsBench-plain end fill events some few byte e = rw e (record {
   few_on_tick = λ tick. omega arith;
   before_end = All-nil _;
   in_range = All-nil _;
+  cuts_in_range = in_range;
+  cuts_in_order = in_order;
 })
+
+-- a bench with other cuts
+pub IsBench-supplied : (bench : Stimulus) (cuts : List Cut) → IsBench bench → All (IsCut bench.end) cuts → AreOrdered cuts → IsBench (record bench { cuts = cuts })
+IsBench-supplied bench cuts known in_range in_order = record {
+  some_ticks = known.some_ticks;
+  few_ticks = known.few_ticks;
+  fill_is_byte = known.fill_is_byte;
+  in_order = known.in_order;
+  few_on_tick = known.few_on_tick;
+  before_end = known.before_end;
+  in_range = known.in_range;
+  cuts_in_range = in_range;
+  cuts_in_order = in_order;
+}

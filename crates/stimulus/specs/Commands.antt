@@ -2,7 +2,7 @@
 use Rattle.std.specs.Prelude.{ℕ, List, [], ◌∷◌, find, bytes_eq, codes, Option, Some, None, if◌then◌else◌, option_map, option_and_then}
 use Rattle.toml.specs.Data.{Data, Members, as_str}
 use Rattle.debug_port.specs.declared.commands.Command.{Command}
-use Rattle.debug_port.specs.declared.commands.Command.TheVariants.{Read, Write, Dump, Reg, SetReg, Halt, Go, Reset}
+use Rattle.debug_port.specs.declared.commands.Command.TheVariants.{Read, Write, Dump, Reg, SetReg, Halt, Go, Reset, Erase}
 use Rattle.debug_port.specs.Commands.{most_bytes}
 use Rattle.stimulus.specs.Toml.{has_key_beside, number_at}
 
@@ -43,7 +43,7 @@ pub data Form : Type 0 where
   OneKey : NumberKey → (ℕ → Command) → Form
   TwoKeys : NumberKey → NumberKey → (ℕ → ℕ → Command) → Form
 
--- the commands by their names. Erasing isn't built yet
+-- the commands by their names
 abbrev pub commands : List (List ℕ × Form)
 commands =
     (codes "read", OneKey address Read)
@@ -54,6 +54,7 @@ commands =
     ∷ (codes "halt", Bare Halt)
     ∷ (codes "go", Bare Go)
     ∷ (codes "reset", Bare Reset)
+    ∷ (codes "erase", Bare Erase)
     ∷ []
 
 abbrev pub form_named : List ℕ → Option Form

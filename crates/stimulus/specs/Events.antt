@@ -1,11 +1,12 @@
 -- The events of a bench: what one of them is, and which rules hold among them.
-use Rattle.std.specs.Prelude.{ℕ, ◌+◌, ◌-◌, ◌≤◌, Bool, ◌&&◌, ◌==◌, nat_le, nat_lt, List, [], ◌∷◌, length, take, filter, filter_map, codes, Option, Some, None, if◌then◌else◌, is_none, option_map, option_and_then, slice_get}
+use Rattle.std.specs.Prelude.{ℕ, ◌+◌, ◌-◌, ◌≤◌, Bool, ◌&&◌, ◌==◌, nat_le, nat_lt, List, [], ◌∷◌, length, filter, codes, Option, Some, None, if◌then◌else◌, option_map, option_and_then}
 use Rattle.std.specs.List.{list_all}
 use Rattle.toml.specs.Data.{Data, Members, as_str, as_table, get_member}
 use Rattle.stimulus.specs.declared.events.Event.{Event}
 use Rattle.stimulus.specs.declared.events.EventAct.{EventAct}
 use Rattle.stimulus.specs.declared.events.EventAct.TheVariants.{Pin, Debug}
 use Rattle.stimulus.specs.Commands.{command_in}
+use Rattle.stimulus.specs.Rules.{Rules}
 use Rattle.stimulus.specs.Toml.{has_key_beside, number_at}
 use Rattle.debug_port.specs.Commands.{IsCommand}
 
@@ -115,14 +116,6 @@ unfoldable pub may_follow : List Event → Event → Bool
 may_follow before event =
     none_after event.tick before && nat_lt (length (on_tick event.tick before)) most_on_tick
 
--- the event that a value is, if it is one that may stand behind others
-abbrev pub if_follows : List Event → Event → Option Event
-if_follows before event = if may_follow before event then Some event else None
-
-abbrev pub next_event : ℕ → List Event → Data → Option Event
-next_event end before value = option_and_then (if_follows before) (event_of end value)
-
--- the value at an index is no event that may stand behind those before it
-unfoldable pub breaks_rule : ℕ → List Data → ℕ → Bool
-breaks_rule end values index =
-    is_none (option_and_then (next_event end (filter_map (event_of end) (take index values))) (slice_get values index))
+-- the rules of the array of events, on a bench with this end
+abbrev pub event_rules : ℕ → Rules Event
+event_rules end = record { read = event_of end; may_follow = may_follow }

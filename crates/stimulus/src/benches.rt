@@ -1,23 +1,27 @@
-ghost use Rattle.std.specs.Prelude.{◌≡◌, ◌≤◌, ◌<◌, [], All, IsTrue, OnErr, OnOk, length};
+ghost use Rattle.std.specs.Prelude.{◌≡◌, ◌≤◌, ◌<◌, [], All, IfOk, IsTrue, OnErr, OnOk, length};
+ghost use Rattle.power_schedule.specs.Cuts.{AreOrdered, most_cuts};
+ghost use Rattle.power_schedule.specs.Powers.{power_at};
+ghost use Rattle.stimulus.specs.Cuts.{IsCut};
 ghost use Rattle.stimulus.specs.Events.{IsEvent, may_follow, most_on_tick, on_tick};
-ghost use Rattle.stimulus.specs.Powers.{power_at};
 ghost use Rattle.stimulus.specs.Stimulus.{IsBench, greatest_end, with_event};
 
 use crate::EVENTS_PER_TICK;
+use crate::cuts::build_schedule;
 use crate::events::{Event, events_on_tick, none_after};
-use crate::powers::Power;
 use chip_words::NoMemory;
+use power_schedule::{Cut, Power, Schedule};
 use std::alloc::Global;
 use std::marker::Model;
 
 /// What comes to a chip from outside, tick by tick.
 ///
-/// Contracts see its end, its fill and its events in the order of the file.
+/// Contracts see its end, its fill, and its events and its cuts in the order of the file.
 #[derive(Debug, Drop)]
 pub struct Bench {
     end: u32,
     fill: u8,
     events: Vec<Event>,
+    schedule: Schedule,
 }
 
 impl Model for Bench {
@@ -33,15 +37,21 @@ impl Model for Bench {
 
 impl Bench {
     /// The bench of a file that has no event.
-    pub fn plain(alloc: Global, end: u32, fill: u8) -> Result<Self, NoMemory>
+    pub fn plain(alloc: Global, end: u32, fill: u8, cuts: &[Cut]) -> Result<Self, NoMemory>
         requires some_ticks { 1 ≤ end }
         requires few_ticks { end ≤ greatest_end }
-        ensures { result ≡ Ok (record { end = end; fill = fill; events = [] }) }
+        requires few_cuts { length cuts.now ≤ most_cuts }
+        requires cuts_in_range { All (IsCut end) cuts.now }
+        requires cuts_in_order { AreOrdered cuts.now }
+        ensures { IfOk result (λ bench.
+            bench ≡ record { end = end; fill = fill; events = []; cuts = cuts.now }) }
     {
+        let schedule = build_schedule(alloc, end, cuts)?;
         Ok(Bench {
             end,
             fill,
             events: Vec::new(alloc),
+            schedule,
         })
     }
 
@@ -62,9 +72,9 @@ impl Bench {
 
     /// What the supply does in a tick.
     pub fn power(&self, tick: u32) -> Power
-        ensures { result ≡ power_at self.now tick }
+        ensures power { result ≡ power_at self.now.cuts tick }
     {
-        Power::On
+        self.schedule.at(tick)
     }
 
     /// The events of a tick, in the order of the file.
@@ -95,5 +105,14 @@ impl Bench {
             Ok(()) => Ok(()),
             Err(_) => Err(NoMemory),
         }
+    }
+
+    /// Cuts the power by a schedule, in place of the cuts that the bench has.
+    pub(crate) fn supply(&mut self, schedule: Schedule)
+        requires in_range { All (IsCut self.old.end) schedule }
+        requires in_order { AreOrdered schedule }
+        ensures { self.new ≡ record self.old { cuts = schedule } }
+    {
+        self.schedule = schedule;
     }
 }

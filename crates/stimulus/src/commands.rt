@@ -126,6 +126,7 @@ fn command_named(name: &str, event: &Table) -> Option<Command>
         "halt" => bare(event, Command::Halt),
         "go" => bare(event, Command::Go),
         "reset" => bare(event, Command::Reset),
+        "erase" => bare(event, Command::Erase),
         _ => None,
     }
 }

@@ -1,14 +1,17 @@
-ghost use Rattle.std.specs.Prelude.{◌≡◌, ◌≢◌, ◌<◌, ◌≤◌, IfSome, IsTrue, length, map, option_map};
-ghost use Rattle.stimulus.specs.Events.{IsAct, IsEvent, IsPin, act_in, event_in, event_of, may_follow, next_event, pin_act_in, pin_in, pin_named};
-ghost use Rattle.stimulus.specs.Stimulus.{bench_in, bench_of_file, bench_with, fill_in, greatest_end, most_events, values_in, with_error};
+ghost use Rattle.std.specs.Prelude.{◌≡◌, ◌≢◌, ◌<◌, ◌≤◌, [], IfSome, IsTrue, length, map, option_map};
+ghost use Rattle.power_schedule.specs.Cuts.{most_cuts};
+ghost use Rattle.stimulus.specs.Events.{IsAct, IsEvent, IsPin, act_in, event_in, event_of, event_rules, may_follow, pin_act_in, pin_in, pin_named};
+ghost use Rattle.stimulus.specs.Rules.{next_item};
+ghost use Rattle.stimulus.specs.Stimulus.{bench_in, bench_of_file, bench_with, count_in_32_bits, fill_in, greatest_end, most_events, values_in, with_error};
 ghost use Rattle.toml.specs.View.{table_view, view};
 
 use crate::benches::Bench;
 use crate::commands::command_in;
+use crate::cuts::schedule_in;
 use crate::events::{Event, EventAct};
 use crate::refusals::{BenchError, BenchRefused, RootField};
 use crate::trees::{has_key_beside, number_at, number_within, value_at};
-use crate::{MAX_END, MAX_EVENTS};
+use crate::{MAX_CUTS, MAX_END, MAX_EVENTS};
 use std::alloc::Global;
 use toml::{Table, Value};
 
@@ -81,7 +84,8 @@ fn event_of(value: &Value, end: u32) -> Option<Event>
 
 /// The event that a value is, if it is one that may stand behind those of a bench.
 fn next_event(bench: &Bench, value: &Value) -> Option<Event>
-    ensures event { result ≡ next_event bench.now.end bench.now.events (view value.now) }
+    ensures event { result ≡ next_item (event_rules bench.now.end) bench.now.events
+        (view value.now) }
     ensures follows { IfSome result (λ event. IsTrue (may_follow bench.now.events event)) }
     ensures before_end { IfSome result (λ event. event.tick < bench.now.end) }
     ensures in_range { IfSome result IsEvent }
@@ -94,21 +98,41 @@ fn next_event(bench: &Bench, value: &Value) -> Option<Event>
     }
 }
 
-/// The bench with these events, or the refusal of the first value that breaks a rule.
-fn judge(alloc: Global, end: u32, fill: u8, values: &[Value]) -> Result<Bench, BenchError>
+/// The bench with the events that values are, or the refusal of the first value that breaks a rule.
+fn with_events(alloc: Global, end: u32, fill: u8, values: &[Value]) -> Result<Bench, BenchError>
     requires some_ticks { 1 ≤ end }
     requires few_ticks { end ≤ greatest_end }
     requires few_events { length values.now ≤ most_events }
     ensures { result ≢ Err BenchError.NoMemory
-        → result ≡ with_error (bench_with end fill (map view values.now)) }
+        → result ≡ with_error (bench_with end fill (map view values.now) []) }
 {
-    let mut bench = Bench::plain(alloc, end, fill)?;
+    let mut bench = Bench::plain(alloc, end, fill, &[])?;
     for (index, value) in values.iter().enumerate() {
         let Some(event) = next_event(&bench, value) else {
             return Err(BenchError::Refused(BenchRefused::Event(index as u32)));
         };
         bench.add(event)?;
     }
+    Ok(bench)
+}
+
+/// The bench with these events and cuts, or the refusal of the first value that breaks a rule.
+fn judge(
+    alloc: Global,
+    end: u32,
+    fill: u8,
+    events: &[Value],
+    cuts: &[Value],
+) -> Result<Bench, BenchError>
+    requires some_ticks { 1 ≤ end }
+    requires few_ticks { end ≤ greatest_end }
+    requires few_events { length events.now ≤ most_events }
+    requires few_cuts { length cuts.now ≤ most_cuts }
+    ensures { result ≢ Err BenchError.NoMemory
+        → result ≡ with_error (bench_with end fill (map view events.now) (map view cuts.now)) }
+{
+    let mut bench = with_events(alloc, end, fill, events)?;
+    bench.supply(schedule_in(alloc, end, cuts)?);
     Ok(bench)
 }
 
@@ -122,11 +146,12 @@ fn fill_in(root: &Table) -> Option<u8>
     }
 }
 
-/// The values of the array at `event`, or none where it isn't there.
-fn values_in(root: &Table) -> Option<&[Value]>
-    ensures { option_map (λ values. map view values.now) result ≡ values_in (table_view root.now) }
+/// The values of the array at a key, or none where it isn't there.
+fn values_in<'a>(root: &'a Table, key: &str) -> Option<&'a [Value]>
+    ensures { option_map (λ values. map view values.now) result
+        ≡ values_in key.now (table_view root.now) }
 {
-    match value_at(root, "event") {
+    match value_at(root, key) {
         Some(value) => {
             let values = value.as_array()?;
             Some(values.as_slice())
@@ -140,6 +165,15 @@ fn refuse(field: RootField) -> Result<Bench, BenchError>
     ensures { result ≡ Err (BenchError.Refused (BenchRefused.Field field)) }
 {
     Err(BenchError::Refused(BenchRefused::Field(field)))
+}
+
+/// The refusal of so many events or cuts.
+fn refuse_count(count: usize) -> Result<Bench, BenchError>
+    ensures { result
+        ≡ Err (BenchError.Refused (BenchRefused.TooMany (count_in_32_bits count))) }
+{
+    let count = u32::try_from(count).unwrap_or(u32::MAX);
+    Err(BenchError::Refused(BenchRefused::TooMany(count)))
 }
 
 /// The bench that a root is, or its first refusal.
@@ -157,17 +191,22 @@ fn bench_in(alloc: Global, root: &Table) -> Result<Bench, BenchError>
     let Some(fill) = fill_in(root) else {
         return refuse(RootField::Fill);
     };
-    let Some(values) = values_in(root) else {
+    let Some(events) = values_in(root, "event") else {
         return refuse(RootField::Event);
     };
-    if has_key_beside(root, &["version", "end", "fill", "event"]) {
+    let Some(cuts) = values_in(root, "cut") else {
+        return refuse(RootField::Cut);
+    };
+    if has_key_beside(root, &["version", "end", "fill", "event", "cut"]) {
         return refuse(RootField::Unknown);
     }
-    if values.len() > MAX_EVENTS {
-        let count = u32::try_from(values.len()).unwrap_or(u32::MAX);
-        return Err(BenchError::Refused(BenchRefused::TooMany(count)));
+    if events.len() > MAX_EVENTS {
+        return refuse_count(events.len());
     }
-    judge(alloc, end, fill, values)
+    if cuts.len() > MAX_CUTS {
+        return refuse_count(cuts.len());
+    }
+    judge(alloc, end, fill, events, cuts)
 }
 
 /// The bench that a file is, or the first refusal in the order of `BenchRefused`.

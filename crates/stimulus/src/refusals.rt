@@ -13,6 +13,8 @@ pub enum RootField {
     Fill,
     /// `event`, the array of events.
     Event,
+    /// `cut`, the array of cuts.
+    Cut,
     /// Any other key.
     Unknown,
 }
@@ -26,10 +28,13 @@ pub enum BenchRefused {
     /// This key of the root is absent though needed, of another type or out of its range.
     /// `Unknown`: a key stands there that a bench doesn't have.
     Field(RootField),
-    /// The bench has this many events, which is more than `MAX_EVENTS`.
+    /// The bench has this many events, which is more than `MAX_EVENTS`, or else this many cuts, which is
+    /// more than `MAX_CUTS`.
     TooMany(u32),
     /// The event of this index is the first that breaks a rule.
     Event(u32),
+    /// The cut of this index is the first that breaks a rule.
+    Cut(u32),
 }
 
 /// Why a bench wasn't read.
@@ -59,6 +64,7 @@ impl fmt::Display for RootField {
             RootField::End => "end",
             RootField::Fill => "fill",
             RootField::Event => "event",
+            RootField::Cut => "cut",
             RootField::Unknown => "an unknown key",
         })
     }
@@ -73,8 +79,9 @@ impl fmt::Display for BenchRefused {
                 f,
                 "`{field}` is missing, of another type or out of its range"
             ),
-            BenchRefused::TooMany(count) => write!(f, "{count} events, which are too many"),
+            BenchRefused::TooMany(count) => write!(f, "{count} events or cuts, which are too many"),
             BenchRefused::Event(index) => write!(f, "event {index} breaks a rule"),
+            BenchRefused::Cut(index) => write!(f, "cut {index} breaks a rule"),
         }
     }
 }

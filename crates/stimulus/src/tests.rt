@@ -1,5 +1,6 @@
-use crate::{Bench, BenchError, BenchRefused, Event, EventAct, Power, RootField, read_bench};
+use crate::{Bench, BenchError, BenchRefused, Event, EventAct, RootField, read_bench};
 use debug_port::Command;
+use power_schedule::{Cut, Power};
 use std::alloc::Global;
 use std::test::Fail;
 
@@ -50,8 +51,18 @@ fn refuses(rt: HostRuntime) -> Result<(), Fail> {
             field(RootField::Fill),
         ),
         (
-            "cuts",
-            "version = 1\nend = 5\ncut = []",
+            "a wrong event before a wrong cut",
+            "version = 1\nend = 5\nevent = {}\ncut = {}",
+            field(RootField::Event),
+        ),
+        (
+            "a wrong cut before an unknown key",
+            "version = 1\nend = 5\ncut = {}\nz = 1",
+            field(RootField::Cut),
+        ),
+        (
+            "an unknown key before a cut that is no table",
+            "version = 1\nend = 5\ncut = [1]\nz = 1",
             field(RootField::Unknown),
         ),
         (
@@ -72,6 +83,16 @@ fn refuses(rt: HostRuntime) -> Result<(), Fail> {
         (
             "an event that is no table",
             "version = 1\nend = 5\nevent = [1]",
+            BenchRefused::Event(0),
+        ),
+        (
+            "a cut that is no table",
+            "version = 1\nend = 5\ncut = [1]",
+            BenchRefused::Cut(0),
+        ),
+        (
+            "a cut and an event that are no tables",
+            "version = 1\nend = 5\ncut = [1]\nevent = [1]",
             BenchRefused::Event(0),
         ),
     ];
@@ -109,12 +130,14 @@ fn refuses_each_other_type(rt: HostRuntime) -> Result<(), Fail> {
         ("end", "30"),
         ("fill", "0"),
         ("event", "[]"),
+        ("cut", "[]"),
     ];
     for (key, field) in [
         ("version", RootField::Version),
         ("end", RootField::End),
         ("fill", RootField::Fill),
         ("event", RootField::Event),
+        ("cut", RootField::Cut),
     ] {
         for other in others {
             let text = lines_with(alloc, &root, key, other)?;
@@ -144,6 +167,16 @@ fn refuses_each_other_type(rt: HostRuntime) -> Result<(), Fail> {
                 let want = Some(BenchError::Refused(BenchRefused::Event(0)));
                 assert_eq!(rt; refusal(alloc, text.as_bytes()), want, "{key} = {other}");
             }
+        }
+    }
+    let cut = [("tick", "24"), ("writes", "1"), ("off", "1")];
+    for (key, _) in cut {
+        for other in others {
+            let mut text = String::from_str(alloc, ROOT)?;
+            text.push_str("[[cut]]\n")?;
+            text.push_str(lines_with(alloc, &cut, key, other)?.as_str())?;
+            let want = Some(BenchError::Refused(BenchRefused::Cut(0)));
+            assert_eq!(rt; refusal(alloc, text.as_bytes()), want, "{key} = {other}");
         }
     }
     Ok(())
@@ -246,7 +279,7 @@ fn refuses_each_command_that_breaks_a_rule(rt: HostRuntime) -> Result<(), Fail> 
         "debug = 'halt', at = 1",
         "debug = 'go', reg = 1",
         "debug = 'reset', value = 1",
-        "debug = 'erase'",
+        "debug = 'erase', at = 1",
         "debug = 'step'",
         "debug = ''",
         "debug = 'Halt'",
@@ -261,6 +294,91 @@ fn refuses_each_command_that_breaks_a_rule(rt: HostRuntime) -> Result<(), Fail> 
         assert_eq!(rt; refusal(rt.alloc(), text.as_bytes()), want, "{keys}");
     }
     Ok(())
+}
+
+#[test]
+fn refuses_the_first_cut_that_breaks_a_rule(rt: HostRuntime) -> Result<(), Fail> {
+    for cut in [
+        "tick = 15, writes = 0, off = 1",
+        "tick = 10, writes = 0, off = 1",
+        "tick = 9, writes = 0, off = 1",
+        "tick = -1, writes = 0, off = 1",
+        "tick = 30, writes = 0, off = 1",
+        "tick = 16, writes = -1, off = 1",
+        "tick = 16, writes = 65, off = 1",
+        "tick = 16, writes = 0, off = 0",
+        "tick = 16, writes = 0, off = 10000001",
+        "writes = 0, off = 1",
+        "tick = 16, off = 1",
+        "tick = 16, writes = 0",
+        "tick = 16, writes = 0, off = 1, level = 1",
+        "",
+    ] {
+        let text = format!(in rt.alloc();
+            "{ROOT}cut = [{{ tick = 10, writes = 0, off = 5 }}, {{ {cut} }}, 1]"
+        )?;
+        let want = Some(BenchError::Refused(BenchRefused::Cut(1)));
+        assert_eq!(rt; refusal(rt.alloc(), text.as_bytes()), want, "{cut}");
+    }
+    Ok(())
+}
+
+#[test]
+fn reads_cuts(rt: HostRuntime) -> Result<(), Fail> {
+    let text = "
+        version = 1
+        end = 30
+
+        [[cut]]
+        tick = 10
+        writes = 0
+        off = 5
+
+        [[event]]
+        tick = 12
+        pin = 'P1.3'
+        level = 1
+
+        [[cut]]
+        off = 1
+        writes = 64
+        tick = 16
+
+        [[cut]]
+        tick = 29
+        writes = 1
+        off = 10000000
+    ";
+    let bench = read_bench(rt.alloc(), text.as_bytes())?;
+    for (from, to, want) in [
+        (0, 10, Power::On),
+        (10, 11, Power::Cut(0)),
+        (11, 16, Power::Off),
+        (16, 17, Power::Cut(64)),
+        (17, 18, Power::Off),
+        (18, 29, Power::On),
+        (29, 30, Power::Cut(1)),
+    ] {
+        for tick in from..to {
+            assert_eq!(rt; bench.power(tick), want, "{tick}");
+        }
+    }
+    assert_eq!(rt; bench.events(12), [pin(12, 1, 3, true)].as_slice());
+    let none = read_bench(rt.alloc(), b"version = 1\nend = 5\ncut = []")?;
+    assert_eq!(rt; none.power(0), Power::On);
+    Ok(())
+}
+
+/// A bench with so many cuts.
+fn dark(alloc: Global, cuts: u16) -> Result<String, Fail> {
+    let mut text = String::from_str(alloc, "version = 1\nend = 10000000\n")?;
+    for cut in 0..cuts {
+        let tick = 2 * u32::from(cut);
+        text.push_str(format!(in alloc;
+            "[[cut]]\ntick = {tick}\nwrites = 0\noff = 1\n"
+        )?.as_str())?;
+    }
+    Ok(text)
 }
 
 /// A bench with so many events on each of so many ticks.
@@ -290,6 +408,11 @@ fn refuses_too_many(rt: HostRuntime) -> Result<(), Fail> {
     let long = crowd(rt.alloc(), 10_001, 1)?;
     let want = Some(BenchError::Refused(BenchRefused::TooMany(10_001)));
     assert_eq!(rt; refusal(rt.alloc(), long.as_bytes()), want);
+    let bench = read_bench(rt.alloc(), dark(rt.alloc(), 1000)?.as_bytes())?;
+    assert_eq!(rt; bench.power(1998), Power::Cut(0));
+    let dark = dark(rt.alloc(), 1001)?;
+    let want = Some(BenchError::Refused(BenchRefused::TooMany(1001)));
+    assert_eq!(rt; refusal(rt.alloc(), dark.as_bytes()), want);
     Ok(())
 }
 
@@ -345,9 +468,16 @@ fn reads_a_bench(rt: HostRuntime) -> Result<(), Fail> {
 
     let short = read_bench(rt.alloc(), b"version = 1\nend = 10000000\nevent = []\n")?;
     assert_eq!(rt; (short.end(), short.fill()), (10_000_000, 0));
-    let plain = Bench::plain(rt.alloc(), 1, 255)?;
+    let cut = Cut {
+        tick: 0,
+        writes: 2,
+        off: 1,
+    };
+    let plain = Bench::plain(rt.alloc(), 1, 255, &[cut])?;
     assert_eq!(rt; (plain.end(), plain.fill()), (1, 255));
     assert_eq!(rt; plain.events(0), [].as_slice());
+    assert_eq!(rt; plain.power(0), Power::Cut(2));
+    let plain = Bench::plain(rt.alloc(), 1, 255, &[])?;
     assert_eq!(rt; plain.power(0), Power::On);
     Ok(())
 }
@@ -383,6 +513,7 @@ fn reads_each_command(rt: HostRuntime) -> Result<(), Fail> {
         ("debug = 'halt'", Command::Halt),
         ("debug = 'go'", Command::Go),
         ("debug = 'reset'", Command::Reset),
+        ("debug = 'erase'", Command::Erase),
     ] {
         let text = with_event(rt.alloc(), keys)?;
         let bench = read_bench(rt.alloc(), text.as_bytes())?;
@@ -428,9 +559,10 @@ fn says_why(rt: HostRuntime) -> Result<(), Fail> {
         ),
         (
             BenchRefused::TooMany(10_001),
-            "10001 events, which are too many",
+            "10001 events or cuts, which are too many",
         ),
         (BenchRefused::Event(7), "event 7 breaks a rule"),
+        (BenchRefused::Cut(7), "cut 7 breaks a rule"),
     ] {
         assert_eq!(rt; format!(in rt.alloc(); "{refused}")?.as_str(), want);
         let error = BenchError::Refused(refused);

@@ -21,4 +21,5 @@ returns-in_default-clause-command c =
       bytes_eq-other name _ c.in_default.not-halt,
       bytes_eq-other name _ c.in_default.not-go,
       bytes_eq-other name _ c.in_default.not-reset,
+      bytes_eq-other name _ c.in_default.not-erase,
     ) refl
