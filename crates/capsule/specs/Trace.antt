@@ -12,7 +12,7 @@ use Rattle.chip_core.specs.Run.{chip_after}
 
 -- the bench of a run that names none
 abbrev pub plain_bench : Stimulus
-plain_bench = record { end = 1000; fill = 0; events = [] }
+plain_bench = record { end = 1000; fill = 0; events = []; cuts = [] }
 
 -- the text of the lines of one tick
 abbrev pub text_of_lines : ℕ → List TraceItem → List ℕ

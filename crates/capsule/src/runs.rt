@@ -100,7 +100,7 @@ fn run_image<S: Shelf, K: Sink>(
             Ok(bench) => run_chip(alloc, &image, &bench, out),
             Err(status) => status,
         },
-        None => match Bench::plain(alloc, DEFAULT_END, 0) {
+        None => match Bench::plain(alloc, DEFAULT_END, 0, &[]) {
             Ok(bench) => run_chip(alloc, &image, &bench, out),
             Err(_) => Status::NoMemory,
         },

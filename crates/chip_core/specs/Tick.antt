@@ -8,10 +8,9 @@ use Rattle.bus_fabric.specs.Fabric.{part_at_reset, tick_ended}
 use Rattle.stimulus.specs.declared.events.Event.{Event}
 use Rattle.stimulus.specs.declared.events.EventAct.{EventAct}
 use Rattle.stimulus.specs.declared.events.EventAct.TheVariants.{Pin, Debug}
-use Rattle.stimulus.specs.declared.powers.Power.{Power}
-use Rattle.stimulus.specs.declared.powers.Power.TheVariants.{On}
+use Rattle.power_schedule.specs.declared.powers.Power.{Power}
+use Rattle.power_schedule.specs.Powers.{power_at}
 use Rattle.stimulus.specs.Events.{on_tick}
-use Rattle.stimulus.specs.Powers.{power_at}
 use Rattle.stimulus.specs.Stimulus.{Stimulus}
 use Rattle.chip_core.specs.declared.boots.Place.{Place}
 use Rattle.chip_core.specs.declared.boots.Place.TheVariants.{Start}
@@ -35,7 +34,7 @@ after_bor cause chip = record chip {
 
 -- by the power of the tick: where it comes on, the chip is as after a BOR
 unfoldable pub powered : Power → State → State
-powered On chip = if chip.powered then chip else record (after_bor POWER_ON chip) { powered = true }
+powered power chip = if chip.powered then chip else record (after_bor POWER_ON chip) { powered = true }
 
 -- an event on a pin sets its external level, and a command of the debugger does what it says
 abbrev pub after_event : EventAct → State → State
@@ -98,7 +97,7 @@ reset chip = after_cause (taken_cause chip) chip
 
 -- the chip with the power of its tick
 abbrev pub supplied : Stimulus → State → State
-supplied bench chip = powered (power_at bench chip.tick) chip
+supplied bench chip = powered (power_at bench.cuts chip.tick) chip
 
 -- the chip when the owner of the bus acts
 abbrev pub ready : Stimulus → State → State

@@ -19,7 +19,8 @@ use elf_image::Image;
 use port_unit::Pins;
 use std::alloc::Global;
 use std::marker::Model;
-use stimulus::{Bench, EventAct, Power};
+use power_schedule::Power;
+use stimulus::{Bench, EventAct};
 use trace_print::TraceItem;
 
 /// ACLK has an edge in each tick whose number is a multiple of this.
@@ -146,7 +147,7 @@ impl Chip {
         ensures printable { All IsPrintable lines.new.items }
     {
         match power {
-            Power::On => {
+            Power::On | Power::Cut(_) | Power::Off => {
                 if !self.powered {
                     self.bor(POWER_ON);
                     self.powered = true;
