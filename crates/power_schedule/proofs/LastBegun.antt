@@ -11,10 +11,10 @@ use native.Mathlib.Numerals.{unary_clauses}
 not_begun : (tick : ℕ) (cut : Cut) → tick < cut.tick → is_within tick cut ≡ false
 not_begun tick cut later = grind (arith, nat_tests)
 
-over : (tick : ℕ) (cut next : Cut) → last_tick cut < next.tick → next.tick ≤ tick → is_within tick cut ≡ false
+pub over : (tick : ℕ) (cut next : Cut) → last_tick cut < next.tick → next.tick ≤ tick → is_within tick cut ≡ false
 over tick cut next above begun = grind (arith, nat_tests)
 
-AreOrdered-tail : (cut : Cut) (cuts : List Cut) → AreOrdered (cut ∷ cuts) → AreOrdered cuts
+pub AreOrdered-tail : (cut : Cut) (cuts : List Cut) → AreOrdered (cut ∷ cuts) → AreOrdered cuts
 AreOrdered-tail cut cuts ordered k d within = rw (add-one k) (simp unary_clauses at (ordered (suc k) d (omega arith)))
 
 pub find-none_begun : (tick : ℕ) (cuts : List Cut) → HaveBegun tick cuts 0 → find (is_within tick) cuts ≡ None

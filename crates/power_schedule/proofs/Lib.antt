@@ -1,3 +1,4 @@
+pub mod Done
 pub mod FirstIndex
 pub mod LastBegun
 pub mod Order

@@ -1,7 +1,8 @@
-//! Laws of the cuts and of the power of a run, from their definitions alone. The contract of each function is a law. The functions do
-//! nothing.
+//! Laws of the cuts and of the power of a run, from their definitions alone.
+//!
+//! The contract of each function is a law. The functions do nothing.
 
-ghost use Rattle.power_schedule.specs.Laws.{FirstTickIsNotOff, OffNeverFollowsOn, OrderedCutsAreTaken};
+ghost use Rattle.power_schedule.specs.Laws.{EachCutIsDone, FirstTickIsNotOff, OffNeverFollowsOn, OrderedCutsAreTaken, OutsideIsOn};
 
 /// A tick without power never follows one with power on: a tick that is cut stands between. This takes no order of
 /// the cuts.
@@ -20,4 +21,16 @@ pub fn first_tick_is_not_off()
 #[tactic(auto, using(crate::proofs::Order::ordered_cuts_are_taken))]
 pub fn ordered_cuts_are_taken()
     ensures { OrderedCutsAreTaken }
+{}
+
+/// Of cuts in order each is done: its tick is cut behind its writes, and its length behind it is off. So no cut hides
+/// another.
+pub fn each_cut_is_done()
+    ensures { EachCutIsDone }
+{}
+
+/// All other ticks have power: also the one behind the stretch of a cut, where no other cut has it.
+#[tactic(auto, using(crate::proofs::Done::outside_is_on))]
+pub fn outside_is_on()
+    ensures { OutsideIsOn }
 {}
