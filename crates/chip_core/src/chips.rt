@@ -17,9 +17,9 @@ use bus_fabric::Fabric;
 use chip_words::{DEBUG_RESET, NoMemory, PC, POWER_ON, Regs, SOFTWARE_BOR, SR};
 use elf_image::Image;
 use port_unit::Pins;
+use power_schedule::Power;
 use std::alloc::Global;
 use std::marker::Model;
-use power_schedule::Power;
 use stimulus::{Bench, EventAct};
 use trace_print::TraceItem;
 
