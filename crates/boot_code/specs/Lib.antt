@@ -1,3 +1,4 @@
 pub mod Place
 pub mod Boot
 pub mod View
+pub mod ImageSeal
