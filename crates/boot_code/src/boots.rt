@@ -1,5 +1,6 @@
 ghost use Rattle.std.specs.Prelude.{◌≡◌, [], ◌%◌, ◌<◌, not};
 ghost use Rattle.boot_code.specs.Boot.{checked as checked_place, first_keep, first_wiped as first_wiped_place, is_going, run_of, signed as signed_place, started as started_place, wiped as wiped_place, word_at as word_address, word_read, word_wiped};
+ghost use Rattle.boot_code.specs.Facts.{EndsWell, Fits, IsUncut, kept_behind};
 ghost use Rattle.boot_code.specs.Place.{IsPlace, is_done};
 ghost use Rattle.boot_code.specs.View.{place_of, structure_of};
 
@@ -81,12 +82,21 @@ pub enum BootStep {
 }
 
 /// Does one step of a boot.
+#[tactic(auto, using(crate::proofs::Fitting::step_stays_fit, crate::proofs::Fitting::step_ends_well))]
 pub fn step<B: Bus>(boot: &mut Boot, keep: Keep, bus: &mut B) -> BootStep
     requires empty { (B.part bus.old).accesses ≡ [] }
     ensures step { result ≡ (run_of boot.old keep (B.part bus.old)).value.step }
     ensures place { boot.new ≡ (run_of boot.old keep (B.part bus.old)).value.place }
     ensures part { B.part bus.new ≡ (run_of boot.old keep (B.part bus.old)).part }
     ensures going { is_going result ≡ not (is_done boot.old) }
+
+    // Where the caller writes what each step asks for, the place stays in fit with what it looks at.
+    ensures keeps { IsUncut (B.part bus.old) → Fits boot.old keep (B.part bus.old).memory
+        → Fits boot.new (kept_behind result keep) (B.part bus.new).memory }
+
+    // And so a boot that ends installs what is saved, as it stands in memory then.
+    ensures ends { Fits boot.old keep (B.part bus.old).memory
+        → EndsWell result keep (B.part bus.new).memory }
 {
     let (place, step) = step_from(boot.place, keep, bus);
     boot.place = place;
