@@ -14,7 +14,7 @@ use Rattle.boot_code.specs.Facts.{AreInstalled, EndsWell, Fits, IsPointer, IsStr
 use Rattle.boot_code.proofs.Accesses.{word_read-is, word_wiped-is}
 use Rattle.boot_code.proofs.Wiping.{fram-cases, fram-next, stored-wiped, wiped-first, wiped-info, wiped-main}
 
-first-Fits : (keep : Keep) (memory : List ℕ) → keep.mark ≡ ERASING → Fits first_wiped keep memory
+pub first-Fits : (keep : Keep) (memory : List ℕ) → keep.mark ≡ ERASING → Fits first_wiped keep memory
 first-Fits keep memory m = record {
   marked = m;
   place = grind (arith, nat_tests, fram-cases 0x1800);
@@ -79,7 +79,7 @@ checked-Fits keep memory p words i w0 w1 w2 w3 = by_good (is_good words) refl
     by_good true g = by_saved (keep.mark == SAVED) refl g
     by_good false g = i.marked
 
-word_at-even : (p k : ℕ) → word_at p k % 2 ≡ 0
+pub word_at-even : (p k : ℕ) → word_at p k % 2 ≡ 0
 unfolding word_at
 word_at-even p k = omega arith
 
@@ -90,7 +90,7 @@ asked-Fits at next keep part even f =
     subst (λ (a : Accessed). Fits (next a.answer) keep a.part.memory) (sym (word_read-is at part even)) f
 
 -- a step that wipes
-wiping-Fits : (at : ℕ) (keep : Keep) (part : BusPart) → IsUncut part → IsWiping keep part.memory at → Fits (wiped at) keep (word_wiped at part).part.memory
+pub wiping-Fits : (at : ℕ) (keep : Keep) (part : BusPart) → IsUncut part → IsWiping keep part.memory at → Fits (wiped at) keep (word_wiped at part).part.memory
 wiping-Fits at keep part uncut w =
     subst (λ (a : Accessed). Fits (wiped at) keep a.part.memory) (sym (word_wiped-is at part w.even w.place uncut.unbudgeted))
     (wiped-Fits at keep (stored part.memory at Word WIPED) w.marked w.place w.even

@@ -13,10 +13,10 @@ pub fram-cases : (at : ℕ) → is_fram at ≡ (nat_le 0x1800 at && nat_lt at 0x
 unfolding is_fram region_at
 fram-cases at = grind (arith, nat_tests)
 
-fram-below : (at : ℕ) → is_fram at ≡ true → at < 0x14000
+pub fram-below : (at : ℕ) → is_fram at ≡ true → at < 0x14000
 fram-below at f = grind (arith, nat_tests, fram-cases at)
 
-fram-info : (at : ℕ) → is_fram at ≡ true → at < 0x4400 → at < 0x1A00
+pub fram-info : (at : ℕ) → is_fram at ≡ true → at < 0x4400 → at < 0x1A00
 fram-info at f l = grind (arith, nat_tests, fram-cases at)
 
 pub fram-next : (at : ℕ) → is_fram at ≡ true → at % 2 ≡ 0 → at ≢ LAST_OF_INFORMATION_FRAM → at ≢ LAST_OF_MAIN_FRAM → is_fram (at + 2) ≡ true

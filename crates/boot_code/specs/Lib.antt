@@ -3,3 +3,5 @@ pub mod Boot
 pub mod View
 pub mod ImageSeal
 pub mod Facts
+pub mod Runs
+pub mod Laws

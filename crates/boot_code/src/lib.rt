@@ -2,6 +2,7 @@
 #![tactic(auto)]
 
 mod boots;
+pub mod laws;
 mod places;
 mod seals;
 #[cfg(test)]
