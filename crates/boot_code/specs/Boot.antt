@@ -64,13 +64,13 @@ WIPED = 0xFFFF
 abbrev pub structure : ℕ → ℕ → ℕ → ℕ → Structure
 structure w0 w1 w2 w3 = record { control = w0; second_border = w1; first_border = w2; check = w3 }
 
--- a word with each of its 16 bits turned
-abbrev pub turned : ℕ → ℕ
-turned word = 0xFFFF - word
+-- the complement of a word
+abbrev pub complement : ℕ → ℕ
+complement word = 0xFFFF - word
 
 -- the check is good
 unfoldable pub is_good : Structure → Bool
-is_good words = words.check == turned (bit_xor (bit_xor words.control words.second_border) words.first_border)
+is_good words = words.check == complement (bit_xor (bit_xor words.control words.second_border) words.first_border)
 
 -- the address of a word of the structure, by its number
 unfoldable pub word_at : ℕ → ℕ → ℕ

@@ -81,7 +81,8 @@ pub enum BootStep {
     Done(Borders),
 }
 
-/// Does one step of a boot.
+/// Does one step of a boot, by mark and pointer as they are. A word that it wipes is wiped behind the call; to write mark
+/// and pointer is left to the caller.
 #[tactic(auto, using(crate::proofs::Fitting::step_stays_fit, crate::proofs::Fitting::step_ends_well))]
 pub fn step<B: Bus>(boot: &mut Boot, keep: Keep, bus: &mut B) -> BootStep
     requires empty { (B.part bus.old).accesses ≡ [] }
