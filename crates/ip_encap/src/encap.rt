@@ -1,7 +1,7 @@
-ghost use Rattle.std.specs.Prelude.{◌≡◌, ◌+◌, ◌<◌, ◌&&◌, not};
+ghost use Rattle.std.specs.Prelude.{◌≡◌, ◌+◌, ◌<◌, ◌&&◌, not, bit_and};
 ghost use Rattle.chip_words.specs.Addresses.{register_address};
 ghost use Rattle.chip_words.specs.Bits.{has_bit, part_of};
-ghost use Rattle.chip_words.specs.Encap.{Encap as EncapRegisters, MPUIPVS as MPUIPVS_BIT, allows as allows_access, area as area_of, bytes_without_data, encap_at_reset, encap_word, encap_written, first_encap, installed, is_enabled as is_enabled_of, is_locked as is_locked_of, seal as seal_of};
+ghost use Rattle.chip_words.specs.Encap.{Encap as EncapRegisters, MPUIPVS as MPUIPVS_BIT, allows as allows_access, area as area_of, bytes_without_data, encap_at_reset, encap_word, encap_written, first_encap, installed, is_enabled as is_enabled_of, is_locked as is_locked_of, kept_of_mpuipc0 as kept_bits, seal as seal_of};
 ghost use Rattle.chip_words.specs.Seals.{is_in};
 ghost use Rattle.chip_words.specs.Segments.{border as border_of};
 ghost use Rattle.chip_words.specs.Sizes.{IsByteOrWord, span};
@@ -35,10 +35,21 @@ pub struct Borders {
     pub b1: u16,
 }
 
+/// What the three registers say, decoded.
+#[derive(Clone, Copy, Debug, PartialEq, Eq)]
+pub struct Bounds {
+    /// The control bits: VS, ENA and LOCK in their places in MPUIPC0.
+    pub control: u8,
+    /// The addresses of the borders.
+    pub first: u32,
+    pub second: u32,
+}
+
 /// IP Encapsulation (SLAU367, MPU, IP Encapsulation segment).
 #[derive(Debug, Drop)]
 pub struct Encap {
-    mpuipc0: u16,
+    /// The lower byte of MPUIPC0, whose upper one has no bits.
+    mpuipc0: u8,
     mpuipsegb2: u16,
     mpuipsegb1: u16,
     // What the registers mean: each access asks for it, and few writes change it.
@@ -74,7 +85,7 @@ impl Encap {
 
     /// The unit with these words in its registers, and what they mean.
     #[tactic(auto, unfolding(chip_words::specs::Encap::area))]
-    fn decoded(mpuipc0: u16, mpuipsegb2: u16, mpuipsegb1: u16) -> Encap
+    fn decoded(mpuipc0: u8, mpuipsegb2: u16, mpuipsegb1: u16) -> Encap
         ensures { result ≡ record {
           mpuipc0 = mpuipc0;
           mpuipsegb2 = mpuipsegb2;
@@ -109,7 +120,7 @@ impl Encap {
         ensures { self.new ≡ installed borders.c0 borders.b2 borders.b1 }
     {
         *self = Encap::decoded(
-            borders.c0 & KEPT_OF_MPUIPC0,
+            kept_of_mpuipc0(borders.c0),
             border_bits(borders.b2),
             border_bits(borders.b1),
         );
@@ -123,7 +134,7 @@ impl Encap {
         ensures small { result < span size }
     {
         let word = match at - at % 2 {
-            MPUIPC0 => self.mpuipc0,
+            MPUIPC0 => u16::from(self.mpuipc0),
             MPUIPSEGB2 => self.mpuipsegb2,
             MPUIPSEGB1 => self.mpuipsegb1,
             _ => 0,
@@ -146,8 +157,8 @@ impl Encap {
         let value = value as u16;
         match at - at % 2 {
             MPUIPC0 => {
-                let word = word_with_part(size, at, self.mpuipc0, value) & KEPT_OF_MPUIPC0;
-                *self = Encap::decoded(word, self.mpuipsegb2, self.mpuipsegb1);
+                let word = word_with_part(size, at, u16::from(self.mpuipc0), value);
+                *self = Encap::decoded(kept_of_mpuipc0(word), self.mpuipsegb2, self.mpuipsegb1);
             }
             MPUIPSEGB2 => {
                 let word = border_bits(word_with_part(size, at, self.mpuipsegb2, value));
@@ -201,6 +212,20 @@ impl Encap {
         self.is_locked() && self.holds(at)
     }
 
+    /// What the registers bound: the control bits, which are the lower byte of MPUIPC0, and the addresses of both borders.
+    pub fn bounds(&self) -> Bounds
+        ensures control { result.control ≡ (self.now).mpuipc0 }
+        ensures first { result.first ≡ border_of (self.now).mpuipsegb1 }
+        ensures second { result.second ≡ border_of (self.now).mpuipsegb2 }
+        ensures small { (result.first < 0x100000) × (result.second < 0x100000) }
+    {
+        Bounds {
+            control: self.mpuipc0,
+            first: border(self.mpuipsegb1),
+            second: border(self.mpuipsegb2),
+        }
+    }
+
     /// VS: a violation of the area asks for a reset.
     pub fn vs(&self) -> bool
         ensures { result ≡ has_bit (self.now).mpuipc0 MPUIPVS_BIT }
@@ -223,10 +248,17 @@ impl Encap {
     }
 }
 
-/// A bit of a word, 0 to 15, is set.
-fn is_set(word: u16, bit: u32) -> bool
-    requires { bit < 16 }
-    ensures { result ≡ has_bit word bit }
+/// What MPUIPC0 keeps of a word: bits of its lower byte alone.
+fn kept_of_mpuipc0(word: u16) -> u8
+    ensures { result ≡ bit_and word kept_bits }
 {
-    (word >> bit) & 1 == 1
+    (word & KEPT_OF_MPUIPC0) as u8
+}
+
+/// A bit of a byte, 0 to 7, is set.
+fn is_set(byte: u8, bit: u32) -> bool
+    requires { bit < 8 }
+    ensures { result ≡ has_bit byte bit }
+{
+    (byte >> bit) & 1 == 1
 }

@@ -6,4 +6,4 @@ mod encap;
 #[cfg(test)]
 mod tests;
 
-pub use encap::{Borders, Encap};
+pub use encap::{Borders, Bounds, Encap};
