@@ -5,7 +5,7 @@ use Rattle.chip_words.specs.declared.seals.Seal.{Seal}
 use Rattle.chip_words.specs.declared.unit_names.UnitName.{UnitName}
 use Rattle.chip_words.specs.declared.unit_names.UnitName.TheVariants as of
 use Rattle.chip_words.specs.Addresses.{unit_at}
-use Rattle.chip_words.specs.Encap.{Encap, is_enabled, is_locked, kept_after, seal}
+use Rattle.chip_words.specs.Encap.{is_enabled, is_locked, kept_after, seal}
 use Rattle.chip_words.specs.Units.{Units, touched_in, units_touched}
 
 touched_in-encap : (name : Option UnitName) (units : Units) (at : ℕ) → (touched_in name units at).encap ≡ units.encap

@@ -1,12 +1,13 @@
 -- What the fabric means, and words for what its calls do.
-use Rattle.std.specs.Prelude.{◌≡◌, ℕ, ◌+◌, ◌≤◌, ◌==◌, ◌&&◌, not, Bool, false, List, [], length, None, Option}
+use Rattle.std.specs.Prelude.{◌≡◌, ℕ, ◌+◌, ◌≤◌, ◌==◌, ◌&&◌, not, Bool, true, false, List, [], length, None, Option}
 use Rattle.chip_words.specs.declared.sizes.Size.{Size}
 use Rattle.chip_words.specs.Access.{Accessed}
 use Rattle.chip_words.specs.BusPart.{BusPart}
-use Rattle.chip_words.specs.Causes.{no_causes}
+use Rattle.chip_words.specs.Causes.{NO_CAUSE, no_causes}
 use Rattle.chip_words.specs.Interrupts.{NMI_VECTOR, units_entered}
 use Rattle.chip_words.specs.Encap.{Encap, encap_written, kept_after}
 use Rattle.chip_words.specs.Units.{Units, units_at_reset, units_written}
+use Rattle.bus_fabric.specs.Memory.{sram_filled}
 use Rattle.bus_fabric.specs.declared.fabric.Fabric.{Fabric}
 
 abbrev pub units_of : Fabric → Units
@@ -32,7 +33,6 @@ bus_part_of fabric = record {
   noted = fabric.noted;
   accesses = (fabric.accesses).items;
   causes = fabric.causes;
-  stop = fabric.stop;
 }
 
 -- the bus part changes so
@@ -46,6 +46,14 @@ ChangesUnits change old new = bus_part_of new ≡ record (bus_part_of old) { uni
 -- a reset of the units, with its cause; a request of the NMI is dropped
 abbrev pub part_at_reset : Bool → ℕ → BusPart → BusPart
 part_at_reset is_bor cause part = record part { units = units_at_reset is_bor cause part.units; nmi = false }
+
+-- power is lost: SRAM is the fill, the units are as a BOR leaves them, but for its cause, and a request of the NMI and the
+-- step's violations are dropped. FRAM, the addresses that stay secret and the external levels stand
+abbrev pub part_without_power : BusPart → BusPart
+part_without_power part = record (part_at_reset true NO_CAUSE part) {
+  memory = sram_filled part.fill part.memory;
+  noted = 0;
+}
 
 -- an interrupt was entered: what asked for it is cleared, a request of the NMI or the flag of its line
 abbrev pub part_entered : ℕ → BusPart → BusPart

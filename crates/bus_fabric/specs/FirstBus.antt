@@ -38,5 +38,4 @@ first_bus fill = record {
   noted = 0;
   accesses = [];
   causes = no_causes;
-  stop = false;
 }

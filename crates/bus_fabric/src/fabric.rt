@@ -1,4 +1,4 @@
-ghost use Rattle.std.specs.Prelude.{◌≡◌, ◌%◌, ◌<◌, ◌≤◌, None, true, not, IfOk, IfSome, IsTrue, length, slice_index, slice_set, vec_len};
+ghost use Rattle.std.specs.Prelude.{◌≡◌, ◌%◌, ◌<◌, ◌≤◌, None, true, not, IfOk, IfSome, IsTrue, is_some, length, slice_index, slice_set, vec_len};
 ghost use Rattle.memory_map.specs.declared.TheConstants.{MAIN_END};
 ghost use Rattle.chip_words.specs.Access.{is_over, numbered, requested, sys_asked};
 ghost use Rattle.chip_words.specs.Causes.{least_cause};
@@ -20,6 +20,9 @@ use mpu_segments::{MpuSegments, Noted};
 use port_unit::Ports;
 use std::alloc::Global;
 use timer_unit::Timers;
+
+/// SYSRSTIV before any reset.
+const NO_CAUSE: u8 = 0x00;
 
 /// The address of the reset vector (SLAS704, interrupt vector table).
 const RESET_VECTOR: u32 = 0xFFFE;
@@ -46,12 +49,11 @@ pub struct Fabric {
     pub(crate) accesses: ArrayVec<Access, 64>,
     /// The causes that the accesses of the step have requested.
     causes: Causes,
-    pub(crate) stop: bool,
     ghost whole: { vec_len memory ≡ MAIN_END },
 }
 
 impl Fabric {
-    ghost use Rattle.bus_fabric.specs.Fabric.{Changes, ChangesMemory, ChangesUnits, RESET_VECTOR as reset_vector_at, bus_part_of, tick_begun, tick_ended};
+    ghost use Rattle.bus_fabric.specs.Fabric.{Changes, ChangesMemory, ChangesUnits, RESET_VECTOR as reset_vector_at, bus_part_of, part_without_power, tick_begun, tick_ended};
 
     /// The bus part before the first tick: FRAM is erased, SRAM is the fill, and the units are as after a BOR.
     ///
@@ -81,7 +83,6 @@ impl Fabric {
             noted: 0,
             accesses: ArrayVec::new(),
             causes: Causes::new(),
-            stop: false,
         })
     }
 
@@ -93,6 +94,13 @@ impl Fabric {
     {
         self.budget = budget;
         self.writes = 0;
+    }
+
+    /// Says whether the power of the tick is cut.
+    pub fn is_cut(&self) -> bool
+        ensures cut { result ≡ is_some (bus_part_of self.now).budget }
+    {
+        self.budget.is_some()
     }
 
     /// Ends a tick: no write of it is counted any longer, and no step of it is told.
@@ -214,20 +222,6 @@ impl Fabric {
         self.sys.request(cause);
     }
 
-    /// Notes that the chip met something that isn't built.
-    pub fn stop(&mut self)
-        ensures stop { Changes (λ part. record part { stop = true }) self.old self.new }
-    {
-        self.stop = true;
-    }
-
-    /// Says whether the chip met something that isn't built.
-    pub fn is_stopped(&self) -> bool
-        ensures stop { result ≡ (bus_part_of self.now).stop }
-    {
-        self.stop
-    }
-
     /// The addresses that stay secret.
     pub fn kept(&self) -> Seal
         ensures kept { result ≡ (bus_part_of self.now).kept }
@@ -288,6 +282,16 @@ impl Fabric {
         ensures fram { ChangesMemory (fram_copied bytes.now) self.old self.new }
     {
         copy_fram(self.memory.as_mut_slice(), bytes);
+    }
+
+    /// Power is lost: SRAM is the fill again, the units are as a BOR leaves them, but for its cause, and what was requested
+    /// or noted is dropped.
+    pub fn lose_power(&mut self)
+        ensures part { Changes part_without_power self.old self.new }
+    {
+        self.lose_sram();
+        self.reset(true, NO_CAUSE);
+        self.noted = 0;
     }
 
     /// SRAM loses what it holds: it is the fill again.

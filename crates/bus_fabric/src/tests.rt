@@ -107,7 +107,29 @@ fn registers_go_to_their_unit(rt: HostRuntime) -> Result<(), Fail> {
     assert_eq!(rt; fabric.read(CPU, PAIN + 2, Size::Byte), 0x81);
     assert_eq!(rt; fabric.read(CPU, 0x0512, Size::Word), 0x1C02);
     assert_eq!(rt; fabric.read(CPU, 0x0300, Size::Word), 0);
-    assert!(rt; !fabric.is_stopped());
+    Ok(())
+}
+
+#[test]
+fn a_loss_of_power_leaves_fram_and_secrets(rt: HostRuntime) -> Result<(), Fail> {
+    let mut fabric = Fabric::build(rt.alloc(), 0, FILL)?;
+    let seal = Seal {
+        low: 0x4400,
+        high: 0x4800,
+    };
+    fabric.keep(seal);
+    fabric.set(0x1C00, 0x11);
+    fabric.set(0x1800, 0x22);
+    fabric.write(CPU, PAIN + 2, Size::Byte, 0x81);
+    fabric.nmi = true;
+    fabric.ask(POWER_PASSWORD);
+    fabric.lose_power();
+    assert_eq!(rt; fabric.get(0x1C00), FILL);
+    assert_eq!(rt; fabric.get(0x1800), 0x22);
+    assert_eq!(rt; fabric.read(CPU, PAIN + 2, Size::Byte), 0);
+    assert_eq!(rt; fabric.kept(), seal);
+    assert!(rt; !fabric.nmi);
+    assert_eq!(rt; fabric.pending(), None);
     Ok(())
 }
 

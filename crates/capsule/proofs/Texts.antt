@@ -1,6 +1,5 @@
 -- The text of a trace, line by line and tick by tick.
-use Rattle.std.proofs.Common.{◌≡◌, ℕ, zero, suc, ◌+◌, ◌-◌, ◌<◌, ◌∙◌, true, false, refl, sym, ap, append-nil, List, [], ◌++◌, length, get_or, drop, add-one, arith}
-use Rattle.std.specs.Prelude.{if◌then◌else◌}
+use Rattle.std.proofs.Common.{◌≡◌, ℕ, zero, suc, ◌+◌, ◌-◌, ◌<◌, ◌∙◌, refl, sym, ap, append-nil, List, [], ◌++◌, length, get_or, drop, add-one, arith}
 use Rattle.std.proofs.Math.Seq.{drop-cons}
 use Rattle.trace_print.specs.declared.items.TraceItem.{TraceItem}
 use Rattle.trace_print.specs.Lines.{line_of}
@@ -23,18 +22,8 @@ text_of_lines-item tick items i item is h =
     text_of_lines-drop tick items i item h
     ∙ ap (λ (one : TraceItem). line_of tick one ++ text_of_lines tick (drop (i + 1) items)) (sym is)
 
--- what is left from a tick on
-abbrev pub left_from : ℕ → ℕ → Stimulus → State → List ℕ
-left_from n tick bench first = if ((chip_after tick bench first).bus).stop then [] else trace_from n tick bench first
-
-pub trace_from-more : (end n : ℕ) (bench : Stimulus) (first : State) → n < end → trace_from (end - n) n bench first ≡ text_of_lines n (lines_of bench (chip_after n bench first)) ++ left_from (end - (n + 1)) (n + 1) bench first
+pub trace_from-more : (end n : ℕ) (bench : Stimulus) (first : State) → n < end → trace_from (end - n) n bench first ≡ text_of_lines n (lines_of bench (chip_after n bench first)) ++ trace_from (end - (n + 1)) (n + 1) bench first
 trace_from-more end n bench first h = let e : end - n ≡ suc (end - (n + 1)) = omega arith in rw (e, add-one) refl
-
-pub left_from-stop : (n tick : ℕ) (bench : Stimulus) (first chip : State) → chip ≡ chip_after tick bench first → (chip.bus).stop ≡ true → left_from n tick bench first ≡ []
-left_from-stop n tick bench first chip c h = let stops : ((chip_after tick bench first).bus).stop ≡ true = rw c at h in rw stops refl
-
-pub left_from-more : (n tick : ℕ) (bench : Stimulus) (first chip : State) → chip ≡ chip_after tick bench first → (chip.bus).stop ≡ false → left_from n tick bench first ≡ trace_from n tick bench first
-left_from-more n tick bench first chip c h = let goes : ((chip_after tick bench first).bus).stop ≡ false = rw c at h in rw goes refl
 
 -- one tick more of a run
 pub chip_after-more : (tick : ℕ) (bench : Stimulus) (first chip after : State) → chip ≡ chip_after tick bench first → after ≡ ticked bench chip → after ≡ chip_after (tick + 1) bench first
@@ -45,9 +34,9 @@ unfolding ticked
 ticked-tick bench chip = refl
 
 -- the text of one tick stands before what is left behind it
-pub tick_parts : (end n : ℕ) (bench : Stimulus) (first chip : State) (items : List TraceItem) → n < end → chip ≡ chip_after n bench first → items ≡ lines_of bench chip → trace_from (end - n) n bench first ≡ text_of_lines n items ++ left_from (end - (n + 1)) (n + 1) bench first
+pub tick_parts : (end n : ℕ) (bench : Stimulus) (first chip : State) (items : List TraceItem) → n < end → chip ≡ chip_after n bench first → items ≡ lines_of bench chip → trace_from (end - n) n bench first ≡ text_of_lines n items ++ trace_from (end - (n + 1)) (n + 1) bench first
 tick_parts end n bench first chip items h c i =
-    trace_from-more end n bench first h ∙ ap (λ (told : List TraceItem). text_of_lines n told ++ left_from (end - (n + 1)) (n + 1) bench first) (sym (i ∙ ap (λ (state : State). lines_of bench state) c))
+    trace_from-more end n bench first h ∙ ap (λ (told : List TraceItem). text_of_lines n told ++ trace_from (end - (n + 1)) (n + 1) bench first) (sym (i ∙ ap (λ (state : State). lines_of bench state) c))
 
 pub end_parts : (end n : ℕ) (bench : Stimulus) (first : State) → n ≡ end → trace_from (end - n) n bench first ≡ line_of end End ++ []
 end_parts end n bench first h =

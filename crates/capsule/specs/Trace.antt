@@ -1,5 +1,5 @@
 -- The trace of a run: the lines of each tick, and END.
-use Rattle.std.specs.Prelude.{ℕ, zero, suc, List, [], ◌∷◌, ◌++◌, if◌then◌else◌}
+use Rattle.std.specs.Prelude.{ℕ, zero, suc, List, [], ◌∷◌, ◌++◌}
 use Rattle.trace_print.specs.declared.items.TraceItem.{TraceItem}
 use Rattle.trace_print.specs.declared.items.TraceItem.TheVariants.{End}
 use Rattle.trace_print.specs.Lines.{line_of}
@@ -19,13 +19,11 @@ abbrev pub text_of_lines : ℕ → List TraceItem → List ℕ
 text_of_lines tick [] = []
 text_of_lines tick (item ∷ items) = line_of tick item ++ text_of_lines tick items
 
--- The text of a run of so many more ticks, from a tick on: the lines of each tick, by the chip that it finds, and then
--- END. Where the chip met something that isn't built, the lines of that tick are the last.
+-- the text of a run of so many more ticks, from a tick on: the lines of each tick, by the chip that it finds, and then END
 abbrev pub trace_from : ℕ → ℕ → Stimulus → State → List ℕ
 trace_from zero tick bench first = line_of tick End
 trace_from (suc n) tick bench first =
-    text_of_lines tick (lines_of bench (chip_after tick bench first))
-    ++ (if ((chip_after (suc tick) bench first).bus).stop then [] else trace_from n (suc tick) bench first)
+    text_of_lines tick (lines_of bench (chip_after tick bench first)) ++ trace_from n (suc tick) bench first
 
 -- the text of a run of so many ticks from a first chip on
 abbrev pub run_text : ℕ → Stimulus → State → List ℕ

@@ -29,7 +29,7 @@ pub enum Status {
 }
 
 impl Status {
-    /// The number that the process ends with. 1 is kept for a command that isn't built.
+    /// The number that the process ends with. 1 is kept for a command that compares two runs.
     pub fn exit_number(self) -> u8
         ensures { result ≡ exit_of self }
     {

@@ -64,9 +64,6 @@ pub fn write_trace<K: Sink>(
             Ok(()) => {}
             Err(e) => return Err(e),
         }
-        if chip.is_stopped() {
-            return Ok(());
-        }
     }
     put_line(end, &TraceItem::End, out)
 }

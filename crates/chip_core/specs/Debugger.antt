@@ -1,7 +1,6 @@
 -- The debugger's commands on the chip: what a command finds there, what it answers, and what it leaves.
-use Rattle.std.specs.Prelude.{ℕ, ◌==◌, ◌&&◌, ◌||◌, Bool, false, if◌then◌else◌, List, [], ◌∷◌, Option, Some, None}
+use Rattle.std.specs.Prelude.{ℕ, ◌==◌, ◌&&◌, Bool, false, if◌then◌else◌, List, [], ◌∷◌, Option, Some, None}
 use Rattle.chip_words.specs.declared.sizes.Size.TheVariants.{Word}
-use Rattle.chip_words.specs.BusPart.{BusPart}
 use Rattle.chip_words.specs.Causes.{DEBUG_RESET}
 use Rattle.chip_words.specs.Memory.{loaded}
 use Rattle.chip_words.specs.Script.{Ran}
@@ -14,6 +13,8 @@ use Rattle.debug_port.specs.declared.states.DebugView.{DebugView}
 use Rattle.debug_port.specs.Commands.{Commanded, run_of}
 use Rattle.trace_print.specs.declared.items.TraceItem.{TraceItem}
 use Rattle.trace_print.specs.declared.items.TraceItem.TheVariants as line
+use Rattle.boot_code.specs.Boot.{ERASING}
+use Rattle.chip_core.specs.Boot.{with_mark}
 use Rattle.chip_core.specs.Phase.{is_up}
 use Rattle.chip_core.specs.State.{State}
 use Rattle.chip_core.specs.Turns.{asked}
@@ -52,18 +53,24 @@ answer_to command chip = ((ran command chip).value).answer
 abbrev pub debug_cause : Debug → Option ℕ
 debug_cause debug = if debug.reset then Some DEBUG_RESET else None
 
--- an erase isn't built yet, and ends the run
-abbrev pub stopped_by : Debug → BusPart → BusPart
-stopped_by debug part = record part { stop = part.stop || debug.erase }
+-- an erase makes the mark that of an erase that has begun
+abbrev pub marked_by : Debug → State → State
+marked_by debug chip = if debug.erase then with_mark ERASING chip else chip
 
--- the chip behind what a command left
-abbrev pub behind : Ran Commanded → State → State
-behind ran chip = record chip {
-  bus = stopped_by (ran.value).debug (asked (debug_cause (ran.value).debug) ran.part);
+abbrev pub reset_by : Debug → State → State
+reset_by debug chip = record chip { bus = asked (debug_cause debug) chip.bus }
+
+-- the chip behind the accesses of a command, and behind what it asks for
+abbrev pub accessed : Ran Commanded → State → State
+accessed ran chip = record chip {
+  bus = ran.part;
   registers = (ran.value).registers;
   halted = ((ran.value).debug).halted;
   pending = ((ran.value).debug).pending;
 }
+
+abbrev pub behind : Ran Commanded → State → State
+behind ran chip = marked_by (ran.value).debug (reset_by (ran.value).debug (accessed ran chip))
 
 unfoldable pub after_command : Command → State → State
 after_command command chip = behind (ran command chip) chip

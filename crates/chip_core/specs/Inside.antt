@@ -9,6 +9,7 @@ state_of chip = record {
   registers = chip.regs;
   busy = chip.busy;
   powered = chip.powered;
+  keep = chip.keep;
   boot = chip.boot;
   dead = chip.dead;
   halted = chip.halted;

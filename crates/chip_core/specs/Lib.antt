@@ -10,4 +10,5 @@ pub mod Turns
 pub mod Tick
 pub mod Lines
 pub mod Inside
+pub mod View
 pub mod Run

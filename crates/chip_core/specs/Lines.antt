@@ -1,12 +1,16 @@
 -- The lines that a tick gives, in their order.
-use Rattle.std.specs.Prelude.{ℕ, ◌&&◌, not, Bool, true, false, if◌then◌else◌, List, [], ◌∷◌, ◌++◌, Option, Some, None, slice_index}
+use Rattle.std.specs.Prelude.{ℕ, ◌==◌, ◌&&◌, not, Bool, true, false, if◌then◌else◌, List, [], ◌∷◌, ◌++◌, Option, Some, None, slice_index}
 use Rattle.trace_print.specs.declared.items.TraceItem.{TraceItem}
-use Rattle.trace_print.specs.declared.items.TraceItem.TheVariants.{On, Halt, Boot, Reset, Dead, Stop}
-use Rattle.chip_core.specs.declared.boots.Place.TheVariants.{Done}
-use Rattle.chip_core.specs.declared.owners.Owner.{Owner}
-use Rattle.chip_core.specs.declared.owners.Owner.TheVariants as of
+use Rattle.trace_print.specs.declared.items.TraceItem.TheVariants.{On, Halt, Erase, Boot, Reset, Dead, Cut}
+use Rattle.boot_code.specs.declared.boots.Act.TheVariants.{Wipe}
+use Rattle.boot_code.specs.declared.boots.BootStep.{BootStep}
+use Rattle.boot_code.specs.declared.boots.BootStep.TheVariants.{Going, Done}
+use Rattle.boot_code.specs.Boot.{INFORMATION_FRAM}
+use Rattle.chip_words.specs.Encap.{Encap}
+use Rattle.chip_words.specs.Segments.{border}
+use Rattle.power_schedule.specs.declared.powers.Power.{Power}
+use Rattle.power_schedule.specs.declared.powers.Power.TheVariants as power
 use Rattle.chip_words.specs.Registers.{PC}
-use Rattle.port_unit.specs.declared.pins.Pins.{Pins}
 use Rattle.stimulus.specs.declared.events.Event.{Event}
 use Rattle.stimulus.specs.declared.events.EventAct.{EventAct}
 use Rattle.stimulus.specs.declared.events.EventAct.TheVariants.{Pin, Debug}
@@ -15,11 +19,12 @@ use Rattle.stimulus.specs.Stimulus.{Stimulus}
 use Rattle.chip_core.specs.Debugger.{debug_lines}
 use Rattle.chip_core.specs.State.{State}
 use Rattle.chip_core.specs.Pins.{pins_of, pin_lines}
-use Rattle.chip_core.specs.Tick.{Moments, after_event, moments, taken_cause}
+use Rattle.chip_core.specs.Tick.{Moments, Stages, after_event, moments, taken_cause}
 
 -- ON: power came on
-abbrev pub power_lines : State → List TraceItem
-power_lines chip = if chip.powered then [] else On ∷ []
+abbrev pub power_lines : Power → State → List TraceItem
+power_lines power.Off chip = []
+power_lines power chip = if chip.powered then [] else On ∷ []
 
 -- what an event shows: the answer to a command
 abbrev pub event_lines : EventAct → State → List TraceItem
@@ -44,10 +49,15 @@ abbrev pub halt_lines : Option ℕ → List TraceItem
 halt_lines (Some at) = Halt at ∷ []
 halt_lines None = []
 
--- BOOT: a boot ended, with no encapsulation in force
-abbrev pub boot_lines : Owner → List TraceItem
-boot_lines (of.Boot Done) = Boot 0 0 0 ∷ []
-boot_lines owner = []
+-- BOOT: a boot ended, with this encapsulation in force
+abbrev pub boot_line : Encap → TraceItem
+boot_line encap = Boot encap.mpuipc0 (border encap.mpuipsegb1) (border encap.mpuipsegb2)
+
+-- ERASE: a boot wiped the first word of an erase
+abbrev pub boot_lines : Option BootStep → State → List TraceItem
+boot_lines (Some (Going (Wipe at))) chip = if at == INFORMATION_FRAM then Erase ∷ [] else []
+boot_lines (Some (Done borders)) chip = boot_line (((chip.bus).units).encap) ∷ []
+boot_lines step chip = []
 
 -- RST: a reset was taken, with its cause
 abbrev pub reset_lines : Option ℕ → List TraceItem
@@ -55,40 +65,42 @@ reset_lines (Some cause) = Reset cause ∷ []
 reset_lines None = []
 
 -- the reset vector may have been loaded: a boot ended, or a reset was taken
-abbrev pub is_restart : Owner → Option ℕ → Bool
-is_restart owner (Some cause) = true
-is_restart (of.Boot Done) None = true
-is_restart owner None = false
+abbrev pub is_restart : Option BootStep → Option ℕ → Bool
+is_restart step (Some cause) = true
+is_restart (Some (Done borders)) None = true
+is_restart step None = false
 
 -- DEAD: there was no reset vector
-abbrev pub dead_lines : Owner → Option ℕ → State → List TraceItem
-dead_lines owner cause after = if is_restart owner cause && after.dead then Dead ∷ [] else []
+abbrev pub dead_lines : Option BootStep → Option ℕ → State → List TraceItem
+dead_lines step cause after = if is_restart step cause && after.dead then Dead ∷ [] else []
 
--- what the turn and the reset show, from the owner of the bus, where the processor was halted, the cause that was taken,
--- and the pins before the tick
-abbrev pub shown_lines : Owner → Option ℕ → Option ℕ → Pins → State → List TraceItem
-shown_lines owner halt cause before after =
-    halt_lines halt ++ boot_lines owner ++ reset_lines cause ++ dead_lines owner cause after
-    ++ pin_lines before (pins_of after)
+-- what the turn of the bus owner shows, where the processor wasn't halted before or was
+abbrev pub turn_lines : Bool → Option BootStep → State → List TraceItem
+turn_lines was_halted step chip = halt_lines (halted_since was_halted chip) ++ boot_lines step chip
 
--- what the tick shows behind its stimulus: where it met what isn't built, nothing but that
-abbrev pub turn_lines : Owner → Option ℕ → Option ℕ → Pins → State → List TraceItem
-turn_lines owner halt cause before after =
-    if (after.bus).stop then Stop ∷ [] else shown_lines owner halt cause before after
+-- what the reset shows
+abbrev pub restart_lines : Option BootStep → Option ℕ → State → List TraceItem
+restart_lines step cause after = reset_lines cause ++ dead_lines step cause after
 
--- where the turn of a tick halted the processor, and the cause that its reset took
-abbrev pub halt_in : Moments → Option ℕ
-halt_in tick = halted_since (tick.ready).halted (tick.turn).chip
+-- what a tick shows of its turn and its reset, where power is on
+abbrev pub lines_with_power : Bool → Option BootStep → State → State → List TraceItem
+lines_with_power was_halted step chip after =
+    turn_lines was_halted step chip ++ restart_lines step (taken_cause chip) after
 
-abbrev pub cause_in : Moments → Option ℕ
-cause_in tick = taken_cause (tick.turn).chip
+-- what the stages behind the stimulus show, by the power of the tick; CUT: power was cut
+abbrev pub stage_lines : Power → Stages → List TraceItem
+stage_lines power.On stages =
+    lines_with_power (stages.ready).halted stages.step (stages.turn).chip stages.after
+stage_lines (power.Cut writes) stages = Cut ∷ []
+stage_lines power.Off stages = []
 
 -- the lines of a tick, by its moments
 abbrev pub lines_at : Stimulus → Moments → List TraceItem
 lines_at bench tick =
-    power_lines tick.before
+    power_lines tick.power tick.before
     ++ stimulus_lines bench tick.supplied
-    ++ turn_lines tick.owner (halt_in tick) (cause_in tick) (pins_of tick.before) tick.after
+    ++ stage_lines tick.power tick.stages
+    ++ pin_lines (pins_of tick.before) (pins_of (tick.stages).after)
 
 unfoldable pub lines_of : Stimulus → State → List TraceItem
 lines_of bench chip = lines_at bench (moments bench chip)

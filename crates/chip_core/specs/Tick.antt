@@ -1,28 +1,30 @@
--- What one tick does to the chip: power, the stimulus, the timers, the owner of the bus, and then the reset.
+-- What one tick does to the chip: power, the stimulus, the timers, the owner of the bus, the reset, and the cut.
 use Rattle.std.specs.Prelude.{ℕ, ◌+◌, ◌%◌, ◌==◌, ◌&&◌, not, Bool, true, false, if◌then◌else◌, List, [], ◌∷◌, Option, Some, None, slice_index}
 use Rattle.chip_words.specs.Bits.{has_bit}
 use Rattle.chip_words.specs.Registers.{OSCOFF, SCG1, SR, no_registers, with_register}
 use Rattle.chip_words.specs.Causes.{POWER_ON, is_of_bor, least_cause}
 use Rattle.chip_words.specs.Units.{units_clocked, units_driven}
-use Rattle.bus_fabric.specs.Fabric.{part_at_reset, tick_ended}
+use Rattle.bus_fabric.specs.Fabric.{part_at_reset, part_without_power, tick_begun, tick_ended}
 use Rattle.stimulus.specs.declared.events.Event.{Event}
 use Rattle.stimulus.specs.declared.events.EventAct.{EventAct}
 use Rattle.stimulus.specs.declared.events.EventAct.TheVariants.{Pin, Debug}
 use Rattle.power_schedule.specs.declared.powers.Power.{Power}
+use Rattle.power_schedule.specs.declared.powers.Power.TheVariants.{On, Cut, Off}
 use Rattle.power_schedule.specs.Powers.{power_at}
 use Rattle.stimulus.specs.Events.{on_tick}
 use Rattle.stimulus.specs.Stimulus.{Stimulus}
-use Rattle.chip_core.specs.declared.boots.Place.{Place}
-use Rattle.chip_core.specs.declared.boots.Place.TheVariants.{Start}
+use Rattle.boot_code.specs.Place.{Place, Start}
+use Rattle.chip_core.specs.Boot.{at_reset_vector}
 use Rattle.chip_core.specs.Debugger.{after_command}
 use Rattle.chip_core.specs.State.{State}
 use Rattle.chip_core.specs.declared.owners.Owner.{Owner}
-use Rattle.chip_core.specs.Turns.{Turn, at_reset_vector, owned, owner_of}
+use Rattle.chip_core.specs.declared.owners.Owner.TheVariants.{Nobody}
+use Rattle.boot_code.specs.declared.boots.BootStep.{BootStep}
+use Rattle.chip_core.specs.Turns.{Turn, owned, owner_of, step_owned}
 
--- a BOR: all registers are 0, the peripherals have their values of reset, and a boot starts
-abbrev pub after_bor : ℕ → State → State
-after_bor cause chip = record chip {
-  bus = part_at_reset true cause chip.bus;
+-- all registers are 0, a boot is next, and what the processor, DMA and the debugger were about to do is dropped
+abbrev pub at_rest : State → State
+at_rest chip = record chip {
   registers = no_registers;
   busy = 0;
   boot = Some Start;
@@ -32,9 +34,27 @@ after_bor cause chip = record chip {
   second_tick = false;
 }
 
--- by the power of the tick: where it comes on, the chip is as after a BOR
+-- a BOR: the peripherals have their values of reset, and a boot starts
+abbrev pub after_bor : ℕ → State → State
+after_bor cause chip = record (at_rest chip) { bus = part_at_reset true cause chip.bus }
+
+-- in a tick whose power is cut only so many writes are present
+abbrev pub budget_of : Power → Option ℕ
+budget_of (Cut writes) = Some writes
+budget_of power = None
+
+-- no write of the tick is counted yet
+abbrev pub begun_by : Power → State → State
+begun_by power chip = record chip { bus = tick_begun (budget_of power) chip.bus }
+
+-- where power comes on, the chip is as after a BOR
+abbrev pub powered_on : State → State
+powered_on chip = if chip.powered then chip else record (after_bor POWER_ON chip) { powered = true }
+
+-- the first stage; power that is cut in this tick was on until then
 unfoldable pub powered : Power → State → State
-powered power chip = if chip.powered then chip else record (after_bor POWER_ON chip) { powered = true }
+powered Off chip = begun_by Off chip
+powered power chip = powered_on (begun_by power chip)
 
 -- an event on a pin sets its external level, and a command of the debugger does what it says
 abbrev pub after_event : EventAct → State → State
@@ -70,8 +90,14 @@ clocked None chip = record chip {
 }
 
 -- the timers take the clock edges of the tick, once the boot is done
-unfoldable pub timed : State → State
-timed chip = clocked chip.boot chip
+unfoldable pub timed : Power → State → State
+timed Off chip = chip
+timed power chip = clocked chip.boot chip
+
+-- who owns the bus in the tick
+abbrev pub owner_in : Power → State → Owner
+owner_in Off chip = Nobody
+owner_in power chip = owner_of chip
 
 -- a PUC: SR and busy are 0, the peripherals have their values of reset but for those that a BOR alone
 -- resets, and PC is the reset vector
@@ -95,47 +121,74 @@ taken_cause chip = least_cause (((chip.bus.units).sys).requested)
 unfoldable pub reset : State → State
 reset chip = after_cause (taken_cause chip) chip
 
--- the chip with the power of its tick
-abbrev pub supplied : Stimulus → State → State
-supplied bench chip = powered (power_at bench.cuts chip.tick) chip
+-- power is cut: the peripherals have their values of a BOR, SRAM is the fill, and a boot will start. FRAM, mark and
+-- pointer, what stays secret and the external levels stand
+unfoldable pub cut : State → State
+cut chip = record (at_rest chip) { bus = part_without_power chip.bus; powered = false }
 
--- the chip when the owner of the bus acts
-abbrev pub ready : Stimulus → State → State
-ready bench chip = timed (stimulated bench (supplied bench chip))
+-- the last stages: no reset is done in a tick whose power is cut
+abbrev pub finished : Power → State → State
+finished On chip = reset chip
+finished (Cut writes) chip = cut chip
+finished Off chip = chip
 
--- the chip at each border of a tick
-pub record Moments : Type 0 where
-  -- as the tick finds it
-  pub before : State
-  -- with the power of the tick
-  pub supplied : State
+-- the power of the chip's next tick
+abbrev pub power_of : Stimulus → State → Power
+power_of bench chip = power_at bench.cuts chip.tick
+
+-- the chip at each border of the stages behind the stimulus
+pub record Stages : Type 0 where
   -- when the owner of the bus acts
   pub ready : State
   -- who owns the bus
   pub owner : Owner
-  -- what the owner made of its turn
+  -- what the owner made of its turn, and the step that a boot made in it
   pub turn : Turn
-  -- behind the reset
+  pub step : Option BootStep
+  -- behind the reset or the cut
   pub after : State
 
-abbrev pub moments_with : State → State → State → Owner → Turn → Moments
-moments_with before supplied ready owner turn = record {
-  before = before;
-  supplied = supplied;
+abbrev pub stages_by : Power → State → Owner → Stages
+stages_by power ready owner = record {
   ready = ready;
   owner = owner;
-  turn = turn;
-  after = reset turn.chip;
+  turn = owned owner ready;
+  step = step_owned owner ready;
+  after = finished power (owned owner ready).chip;
 }
 
-abbrev pub moments_from : State → State → State → Owner → Moments
-moments_from before supplied ready owner = moments_with before supplied ready owner (owned owner ready)
+abbrev pub stages_from : Power → State → Stages
+stages_from power ready = stages_by power ready (owner_in power ready)
+
+-- the stages behind the stimulus, from the chip that it left
+unfoldable pub stages : Power → State → Stages
+stages power chip = stages_from power (timed power chip)
+
+-- a tick, by its stages
+pub record Moments : Type 0 where
+  pub power : Power
+  -- the chip as the tick finds it, and with the power of the tick
+  pub before : State
+  pub supplied : State
+  pub stages : Stages
+
+abbrev pub moments_from : Power → State → State → State → Moments
+moments_from power before supplied stimulated =
+    record { power = power; before = before; supplied = supplied; stages = stages power stimulated }
+
+-- the chip with the power of its tick
+abbrev pub supplied : Stimulus → State → State
+supplied bench chip = powered (power_of bench chip) chip
 
 -- the moments of the next tick
 unfoldable pub moments : Stimulus → State → Moments
-moments bench chip = moments_from chip (supplied bench chip) (ready bench chip) (owner_of (ready bench chip))
+moments bench chip =
+    moments_from (power_of bench chip) chip (supplied bench chip) (stimulated bench (supplied bench chip))
 
--- the chip after its next tick, which has the next number
+-- the chip behind a tick of a number
+abbrev pub behind_tick : ℕ → State → State
+behind_tick tick after = record after { bus = tick_ended after.bus; tick = tick + 1 }
+
+-- the chip after its next tick
 unfoldable pub ticked : Stimulus → State → State
-ticked bench chip =
-    let after = (moments bench chip).after in record after { bus = tick_ended after.bus; tick = chip.tick + 1 }
+ticked bench chip = behind_tick chip.tick ((moments bench chip).stages).after

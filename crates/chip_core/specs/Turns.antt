@@ -1,25 +1,21 @@
 -- Who owns the bus in a tick, and what the owner makes of its turn: a step of the boot until it is done, a transfer of
 -- DMA, an interrupt or an instruction.
-use Rattle.std.specs.Prelude.{ℕ, ◌+◌, ◌-◌, ◌==◌, ◌&&◌, ◌||◌, not, nat_lt, Bool, true, false, if◌then◌else◌, List, Option, Some, None, slice_index}
-use Rattle.chip_words.specs.declared.sizes.Size.TheVariants.{Word}
+use Rattle.std.specs.Prelude.{ℕ, ◌+◌, ◌-◌, ◌&&◌, ◌||◌, not, nat_lt, Bool, true, false, if◌then◌else◌, List, Option, Some, None, slice_index}
 use Rattle.chip_words.specs.declared.accesses.Agent.TheVariants as by
 use Rattle.chip_words.specs.Bits.{has_bit}
-use Rattle.chip_words.specs.Memory.{loaded}
-use Rattle.chip_words.specs.Registers.{CPUOFF, GIE, PC, SR, with_register}
+use Rattle.chip_words.specs.Registers.{CPUOFF, GIE, PC, SR}
 use Rattle.chip_words.specs.Causes.{RESERVED_WORD, least_cause, lesser_cause}
 use Rattle.chip_words.specs.Interrupts.{accepted, units_lines}
 use Rattle.chip_words.specs.Dma.{Dma}
 use Rattle.chip_words.specs.BusPart.{BusPart}
-use Rattle.chip_words.specs.Encap.{seal}
 use Rattle.chip_words.specs.Access.{sys_asked}
 use Rattle.chip_words.specs.Script.{Ran, run}
 use Rattle.chip_words.specs.Steps.{begun, step_ended, waits_in}
-use Rattle.bus_fabric.specs.Fabric.{RESET_VECTOR, part_entered}
-use Rattle.chip_core.specs.declared.boots.Place.{Place}
+use Rattle.bus_fabric.specs.Fabric.{part_entered}
+use Rattle.boot_code.specs.declared.boots.BootStep.{BootStep}
+use Rattle.boot_code.specs.Place.{Place}
 use Rattle.chip_core.specs.declared.owners.Owner.{Owner}
-use Rattle.chip_core.specs.declared.owners.Owner.TheVariants.{Boot, SecondTick, Transfer, Processor}
-use Rattle.chip_core.specs.declared.boots.BootStep.{BootStep}
-use Rattle.chip_core.specs.declared.boots.BootStep.TheVariants.{Going, Ended, NotBuilt}
+use Rattle.chip_core.specs.declared.owners.Owner.TheVariants.{Nobody, Boot, SecondTick, Transfer, Processor}
 use Rattle.cpux_execute.specs.declared.outcomes.Outcome.{Outcome}
 use Rattle.cpux_execute.specs.declared.outcomes.Outcome.TheVariants.{Cycles, Reserved}
 use Rattle.cpux_execute.specs.Execution.{Stepped}
@@ -27,7 +23,7 @@ use Rattle.cpux_extended.specs.Instruction.{instruction}
 use Rattle.dma_unit.specs.declared.transfers.Move.{Move}
 use Rattle.dma_unit.specs.Moves.{transfer}
 use Rattle.dma_unit.specs.Transfers.{due, move_at, passed, transferred}
-use Rattle.chip_core.specs.Boot.{boot_step}
+use Rattle.chip_core.specs.Boot.{boot_run, booted_from}
 use Rattle.chip_core.specs.Entry.{entry}
 use Rattle.chip_core.specs.Phase.{is_private}
 use Rattle.chip_core.specs.State.{State}
@@ -47,39 +43,9 @@ pub record Turn : Type 0 where
 abbrev pub without_step : State → Turn
 without_step chip = record { chip = chip; vector = None; noted = 0; cause = None }
 
--- what isn't built yet ends the run
-abbrev pub stopped : State → State
-stopped chip = record chip { bus = record (chip.bus) { stop = true } }
-
--- the word of a reset vector that was never written
-abbrev pub no_vector : ℕ
-no_vector = 0xFFFF
-
-abbrev pub reset_vector : State → ℕ
-reset_vector chip = loaded (chip.bus.memory) RESET_VECTOR Word
-
--- PC is the reset vector; a vector that was never written leaves the processor dead
-abbrev pub at_reset_vector : State → State
-at_reset_vector chip = record chip {
-  registers = with_register chip.registers PC (reset_vector chip);
-  dead = reset_vector chip == no_vector;
-}
-
--- the addresses that stay secret are those of the seal in force
-abbrev pub with_seal_kept : State → State
-with_seal_kept chip = record chip { bus = record (chip.bus) { kept = seal ((chip.bus).units).encap } }
-
--- what a boot step leads to
-abbrev pub after_boot_step : BootStep → State → State
-after_boot_step (Going place) chip = record chip { boot = Some place }
-after_boot_step Ended chip = record (at_reset_vector (with_seal_kept chip)) { boot = None }
-after_boot_step NotBuilt chip = stopped chip
-
-abbrev pub boot_turn_from : Ran BootStep → State → State
-boot_turn_from ran chip = after_boot_step ran.value (record chip { bus = ran.part })
-
+-- a step of the boot
 unfoldable pub boot_turn : Place → State → State
-boot_turn place chip = boot_turn_from (run by.Boot (boot_step place) (begun chip.bus)) chip
+boot_turn place chip = booted_from (boot_run place chip) chip
 
 -- a reserved word asks for a reset, besides those that the accesses of its step request
 abbrev pub reserved_cause : Outcome → Option ℕ
@@ -200,11 +166,13 @@ owner_of chip = owner_by chip.boot chip.second_tick (due (chip.bus.units).dma)
 
 -- in a tick that DMA doesn't own the rests of its channels are lowered
 abbrev pub rested_by : Owner → State → State
+rested_by Nobody chip = chip
 rested_by SecondTick chip = chip
 rested_by (Transfer channel) chip = chip
 rested_by owner chip = with_dma passed chip
 
 abbrev pub turn_of : Owner → State → Turn
+turn_of Nobody chip = without_step chip
 turn_of (Boot place) chip = without_step (boot_turn place chip)
 turn_of SecondTick chip = without_step (record chip { second_tick = false })
 turn_of (Transfer channel) chip = transfer_turn channel chip
@@ -213,3 +181,11 @@ turn_of Processor chip = processor_turn chip
 -- the turn of the owner of the bus
 unfoldable pub owned : Owner → State → Turn
 owned owner chip = turn_of owner (rested_by owner chip)
+
+-- what a boot's step leads to, where it owns the bus
+abbrev pub boot_step_in : Owner → State → Option BootStep
+boot_step_in (Boot place) chip = Some ((boot_run place chip).value).step
+boot_step_in owner chip = None
+
+unfoldable pub step_owned : Owner → State → Option BootStep
+step_owned owner chip = boot_step_in owner (rested_by owner chip)

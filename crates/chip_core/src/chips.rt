@@ -6,13 +6,15 @@ ghost use Rattle.chip_words.specs.Bits.{has_bit};
 ghost use Rattle.chip_words.specs.Causes.{is_of_bor as is_of_bor_cause};
 ghost use Rattle.chip_words.specs.Registers.{SR as STATUS};
 ghost use Rattle.chip_core.specs.FirstState.{first_state};
-ghost use Rattle.chip_core.specs.Lines.{event_lines, halted_since, lines_of, power_lines, stimulus_lines};
+ghost use Rattle.chip_core.specs.Lines.{event_lines, halted_since, lines_of, lines_with_power, power_lines, stage_lines, stimulus_lines};
 ghost use Rattle.chip_core.specs.Pins.{pins_of};
-ghost use Rattle.chip_core.specs.Tick.{aclk_edge, after_bor, after_event, after_puc, powered, reset as reset_of, smclk_edge, stimulated, taken_cause, ticked, timed};
+ghost use Rattle.chip_core.specs.Tick.{aclk_edge, after_bor, after_event, after_puc, at_rest, budget_of, clocked, cut as cut_state, powered, reset as reset_of, smclk_edge, stages, stimulated, taken_cause, ticked};
 
 use crate::Lines;
-use crate::boots::Place;
 use crate::images::image_memory;
+use crate::lines::{tell_halt, tell_reset};
+use crate::pin_lines::tell_changes;
+use boot_code::{Boot, BootStep, Keep, image_seal};
 use bus_fabric::Fabric;
 use chip_words::{DEBUG_RESET, NoMemory, PC, POWER_ON, Regs, SOFTWARE_BOR, SR};
 use elf_image::Image;
@@ -42,7 +44,9 @@ pub struct Chip {
     /// How many more ticks the processor is busy.
     pub(crate) busy: u64,
     pub(crate) powered: bool,
-    pub(crate) boot: Option<Place>,
+    /// The words besides FRAM that outlast a loss of power.
+    pub(crate) keep: Keep,
+    pub(crate) boot: Option<Boot>,
     pub(crate) dead: bool,
     /// The debugger halted the processor.
     pub(crate) halted: bool,
@@ -64,7 +68,8 @@ impl Model for Chip {
 }
 
 impl Chip {
-    /// The chip before its first tick: power is off, FRAM is the image's, and SRAM is the bench's fill.
+    /// The chip before its first tick: power is off, FRAM is the image's, SRAM is the bench's fill, and what stays secret is
+    /// what the image's first boot will seal.
     #[tactic(auto, using(crate::proofs::FirstMemory::is_first_memory))]
     pub fn build(alloc: Global, image: &Image<'_>, bench: &Bench) -> Result<Chip, NoMemory>
         ensures { IfOk result (λ chip. chip ≡ first_state image.now bench.now.fill) }
@@ -77,12 +82,14 @@ impl Chip {
             Ok(memory) => fabric.load_fram(memory.as_slice()),
             Err(e) => return Err(e),
         }
+        fabric.keep(image_seal(image));
         Ok(Chip {
             fabric,
             regs: Regs::zero(),
             busy: 0,
             powered: false,
-            boot: Some(Place::Start),
+            keep: Keep::new(),
+            boot: Some(boot_code::start()),
             dead: false,
             halted: false,
             pending: false,
@@ -104,9 +111,6 @@ impl Chip {
     }
 
     /// Does the next tick under a bench, and puts its lines in place of those in `lines`.
-    ///
-    /// Where the chip would do something that isn't built, the lines end with STOP, and `is_stopped`
-    /// says so.
     #[tactic(auto, unfolding(crate::specs::Tick::ticked, crate::specs::Tick::moments, crate::specs::Lines::lines_of))]
     pub fn tick(&mut self, bench: &Bench, lines: &mut Lines)
         requires { (self.old).tick < 10000000 }
@@ -117,44 +121,87 @@ impl Chip {
         lines.clear();
         let next = self.tick + 1;
         let pins = self.pins();
-        self.power(bench.power(self.tick), lines);
+        let power = bench.power(self.tick);
+        self.supply(power, lines);
         self.stimulate(bench, lines);
-        self.time();
-        let was_halted = self.halted;
-        let owner = self.owner();
-        self.own(owner);
-        let halt = self.halted_since(was_halted);
-        let cause = self.reset();
-        self.tell(owner, halt, cause, pins, lines);
+        self.do_stages(power, lines);
+        tell_changes(pins, self.pins(), lines);
         self.fabric.end_tick();
         self.tick = next;
     }
 
-    /// Says whether the chip met something that isn't built.
-    pub fn is_stopped(&self) -> bool
-        ensures { result ≡ (self.now).bus.stop }
-    {
-        self.fabric.is_stopped()
-    }
-
     /// The power of the tick: where it comes on, the chip is as after a BOR.
     #[tactic(auto, using(crate::proofs::Printable::power_lines_printable), unfolding(crate::specs::Tick::powered))]
-    fn power(&mut self, power: Power, lines: &mut Lines)
+    fn supply(&mut self, power: Power, lines: &mut Lines)
         requires empty { lines.old.items ≡ [] }
         ensures chip { self.new ≡ powered power self.old }
-        ensures lines { lines.new.items ≡ power_lines self.old }
+        ensures lines { lines.new.items ≡ power_lines power self.old }
         ensures count { array_vec_len lines.new ≤ 1 }
         ensures printable { All IsPrintable lines.new.items }
     {
+        self.fabric.begin_tick(budget(power));
+        if power != Power::Off && !self.powered {
+            self.bor(POWER_ON);
+            self.powered = true;
+            lines.push(TraceItem::On);
+        }
+    }
+
+    /// The stages behind the stimulus, with what they show but for the pins: the timers, the turn of the bus owner, and
+    /// then the reset or the cut. Without power there are none.
+    #[tactic(auto, unfolding(crate::specs::Tick::stages, crate::specs::Tick::timed, crate::specs::Turns::owned))]
+    fn do_stages(&mut self, power: Power, lines: &mut Lines)
+        requires room { array_vec_len lines.old ≤ 9 }
+        requires printable { All IsPrintable lines.old.items }
+        ensures chip { self.new ≡ (stages power self.old).after }
+        ensures lines { lines.new.items ≡ lines.old.items ++ stage_lines power (stages power self.old) }
+        ensures count { array_vec_len lines.new ≤ 13 }
+        ensures printable { All IsPrintable lines.new.items }
+    {
         match power {
-            Power::On | Power::Cut(_) | Power::Off => {
-                if !self.powered {
-                    self.bor(POWER_ON);
-                    self.powered = true;
-                    lines.push(TraceItem::On);
-                }
+            Power::Off => {}
+            Power::Cut(_) => {
+                self.time();
+                let owner = self.owner();
+                self.own(owner);
+                self.cut();
+                lines.push(TraceItem::Cut);
+            }
+            Power::On => {
+                self.time();
+                let was_halted = self.halted;
+                let owner = self.owner();
+                let step = self.own(owner);
+                self.end_stages(was_halted, step, lines);
             }
         }
+    }
+
+    /// Shows what the turn did, and does the reset.
+    fn end_stages(&mut self, was_halted: bool, step: Option<BootStep>, lines: &mut Lines)
+        requires room { array_vec_len lines.old ≤ 9 }
+        requires printable { All IsPrintable lines.old.items }
+        ensures chip { self.new ≡ reset_of self.old }
+        ensures lines { lines.new.items
+            ≡ lines.old.items ++ lines_with_power was_halted step self.old (reset_of self.old) }
+        ensures count { array_vec_len lines.new ≤ 13 }
+        ensures printable { All IsPrintable lines.new.items }
+    {
+        tell_halt(self.halted_since(was_halted), lines);
+        self.tell_boot(step, lines);
+        let cause = self.reset();
+        tell_reset(cause, lines);
+        self.tell_dead(step, cause, lines);
+    }
+
+    /// Power is cut.
+    #[tactic(auto, unfolding(crate::specs::Tick::cut))]
+    fn cut(&mut self)
+        ensures { self.new ≡ cut_state self.old }
+    {
+        self.fabric.lose_power();
+        self.stand_still();
+        self.powered = false;
     }
 
     /// A BOR with a cause.
@@ -162,9 +209,16 @@ impl Chip {
         ensures { self.new ≡ after_bor cause self.old }
     {
         self.fabric.reset(true, cause);
+        self.stand_still();
+    }
+
+    /// Drops what the processor, DMA and the debugger were about to do, so that a boot is next.
+    fn stand_still(&mut self)
+        ensures { self.new ≡ at_rest self.old }
+    {
         self.regs = Regs::zero();
         self.busy = 0;
-        self.boot = Some(Place::Start);
+        self.boot = Some(boot_code::start());
         self.dead = false;
         self.halted = false;
         self.pending = false;
@@ -240,9 +294,8 @@ impl Chip {
     }
 
     /// The timers take the clock edges of the tick, once the boot is done.
-    #[tactic(auto, unfolding(crate::specs::Tick::timed))]
     fn time(&mut self)
-        ensures { self.new ≡ timed self.old }
+        ensures { self.new ≡ clocked (self.old).boot self.old }
     {
         if self.boot.is_none() {
             let smclk = self.has_smclk();
@@ -271,6 +324,16 @@ impl Chip {
         ensures set { result ≡ has_bit (slice_index (self.now).registers STATUS) bit }
     {
         (self.regs.get(SR) >> bit) & 1 == 1
+    }
+}
+
+/// How many writes of a tick are present, where its power is cut.
+fn budget(power: Power) -> Option<u32>
+    ensures { result ≡ budget_of power }
+{
+    match power {
+        Power::Cut(writes) => Some(writes),
+        Power::On | Power::Off => None,
     }
 }
 

@@ -9,6 +9,7 @@ ghost use Rattle.chip_core.specs.Phase.{is_private as is_private_state, is_up as
 
 use crate::Lines;
 use crate::chips::Chip;
+use boot_code::{ERASING, Keep};
 use chip_words::{DEBUG_RESET, PC};
 use debug_port::{Answer, Command, Debug, DebugView};
 use trace_print::TraceItem;
@@ -84,7 +85,10 @@ impl Chip {
             self.fabric.ask(DEBUG_RESET);
         }
         if debug.erase {
-            self.fabric.stop();
+            self.set_keep(Keep {
+                mark: ERASING,
+                ..self.keep
+            });
         }
         answer
     }

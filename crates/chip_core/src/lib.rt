@@ -13,8 +13,10 @@ mod lines;
 mod owners;
 mod pin_lines;
 mod turns;
+mod views;
 
 pub use chips::Chip;
+pub use views::View;
 
 /// The lines of one tick, in their order.
 pub type Lines = ArrayVec<TraceItem, 32>;

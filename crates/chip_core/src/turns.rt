@@ -2,18 +2,15 @@
 
 ghost use Rattle.std.specs.Prelude.{◌≡◌, ◌<◌};
 ghost use Rattle.chip_core.specs.Owners.{IsChannel};
-ghost use Rattle.chip_core.specs.Turns.{accepted_by, at_reset_vector, boot_turn, entered, free_turn, instructed, instruction_ended, is_off as is_off_state, owned, owner_of, processor_turn, rested_by, transfer_turn, with_seal_kept, takes_interrupts as takes_interrupts_state};
+ghost use Rattle.chip_core.specs.Turns.{accepted_by, entered, free_turn, instructed, instruction_ended, is_off as is_off_state, owned, owner_of, processor_turn, rested_by, step_owned, takes_interrupts as takes_interrupts_state, transfer_turn};
 
-use crate::boots::{self, BootStep, Place};
 use crate::chips::Chip;
 use crate::entries;
 use crate::owners::Owner;
-use chip_words::{PC, RESERVED_WORD};
+use boot_code::BootStep;
+use chip_words::RESERVED_WORD;
 use cpux_extended::{Outcome, step};
 use interrupt_reset::best;
-
-/// The word of a vector that was never written.
-const NO_VECTOR: u32 = 0xFFFF;
 
 /// The ticks of an entry behind its first.
 const BUSY_ENTRY: u64 = 5;
@@ -31,8 +28,8 @@ impl Chip {
         ensures owner { result ≡ owner_of self.now }
         ensures channel { IsChannel result }
     {
-        if let Some(place) = self.boot {
-            return Owner::Boot(place);
+        if let Some(boot) = self.boot {
+            return Owner::Boot(boot);
         }
         if self.second_tick {
             return Owner::SecondTick;
@@ -43,27 +40,30 @@ impl Chip {
         }
     }
 
-    /// The turn of the owner of the bus.
-    #[tactic(auto, unfolding(crate::specs::Turns::owned))]
-    pub(crate) fn own(&mut self, owner: Owner)
+    /// The turn of the owner of the bus, which gives the step of a boot.
+    #[tactic(auto, unfolding(crate::specs::Turns::owned, crate::specs::Turns::step_owned))]
+    pub(crate) fn own(&mut self, owner: Owner) -> Option<BootStep>
         requires channel { IsChannel owner }
         ensures chip { self.new ≡ (owned owner self.old).chip }
+        ensures step { result ≡ step_owned owner self.old }
     {
-        self.rest_channels(owner);
-        match owner {
-            Owner::Boot(place) => self.step_boot(place),
+        self.rest_channels(&owner);
+        match &owner {
+            Owner::Nobody => {}
+            Owner::Boot(boot) => return Some(self.step_boot(*boot)),
             Owner::SecondTick => self.second_tick = false,
-            Owner::Transfer(channel) => self.transfer(channel),
+            Owner::Transfer(channel) => self.transfer(*channel),
             Owner::Processor => self.turn(),
         }
+        None
     }
 
     /// Lowers the rests of the channels of DMA, in a tick that DMA doesn't own.
-    fn rest_channels(&mut self, owner: Owner)
-        ensures chip { self.new ≡ rested_by owner self.old }
+    fn rest_channels(&mut self, owner: &Owner)
+        ensures chip { self.new ≡ rested_by owner.now self.old }
     {
         match owner {
-            Owner::SecondTick | Owner::Transfer(_) => {}
+            Owner::Nobody | Owner::SecondTick | Owner::Transfer(_) => {}
             Owner::Boot(_) | Owner::Processor => self.fabric.dma.pass(),
         }
     }
@@ -79,38 +79,6 @@ impl Chip {
         dma_unit::make(step, &mut self.fabric);
         self.fabric.end_step();
         self.second_tick = true;
-    }
-
-    /// One step of the boot.
-    #[tactic(auto, unfolding(crate::specs::Turns::boot_turn))]
-    fn step_boot(&mut self, place: Place)
-        ensures chip { self.new ≡ boot_turn place self.old }
-    {
-        self.fabric.begin_step();
-        match boots::step(place, &mut self.fabric) {
-            BootStep::Going(place) => self.boot = Some(place),
-            BootStep::Ended => self.start(),
-            BootStep::NotBuilt => self.fabric.stop(),
-        }
-    }
-
-    /// Ends the boot.
-    fn start(&mut self)
-        ensures chip { self.new ≡ record (at_reset_vector (with_seal_kept self.old)) { boot = None } }
-    {
-        let seal = self.fabric.encap.seal();
-        self.fabric.keep(seal);
-        self.load_vector();
-        self.boot = None;
-    }
-
-    /// PC is the reset vector, and where there is none the processor is dead.
-    pub(crate) fn load_vector(&mut self)
-        ensures chip { self.new ≡ at_reset_vector self.old }
-    {
-        let vector = self.fabric.reset_vector();
-        self.regs.set(PC, vector);
-        self.dead = vector == NO_VECTOR;
     }
 
     /// The processor's turn.

@@ -26,8 +26,6 @@ pub record BusPart : Type 0 where
   pub accesses : List Access
   -- the causes of the resets that its accesses have requested so far
   pub causes : List Bool
-  -- something that isn't built was met
-  pub stop : Bool
 
 -- a step has room for one more access; those of the debugger aren't listed
 abbrev pub HasRoom : Agent → BusPart → Type 0

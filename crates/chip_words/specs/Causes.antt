@@ -2,6 +2,10 @@
 -- of 65 truth values, of which entry i is for cause i.
 use Rattle.std.specs.Prelude.{ℕ, ◌+◌, ◌==◌, ◌||◌, min, Bool, true, false, if◌then◌else◌, List, [], ◌∷◌, Option, Some, None, replicate, slice_set}
 
+-- none yet, or none any more: what SYSRSTIV reads once its cause was read
+abbrev pub NO_CAUSE : ℕ
+NO_CAUSE = 0x00
+
 -- power came on
 abbrev pub POWER_ON : ℕ
 POWER_ON = 0x02

@@ -32,8 +32,8 @@ is_in seal at = nat_le seal.low at && nat_lt at seal.high && is_main_fram at && 
 abbrev pub holds_any : ℕ → ℕ → Bool
 holds_any low high = nat_lt (max low MAIN_FRAM) (min high BEHIND_MAIN_FRAM)
 
--- main FRAM from one address up to and without another: it is cut to main FRAM, so that seals that hold the same
--- addresses are equal
+-- main FRAM from one address up to and without another: it is cut to main FRAM, so that two seals that come from
+-- registers, whose borders are multiples of 400h, are equal where they hold the same addresses
 abbrev pub between : ℕ → ℕ → Seal
 between low high = record {
   low = (if holds_any low high then max low MAIN_FRAM else 0);

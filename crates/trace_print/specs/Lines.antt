@@ -1,7 +1,7 @@
 -- The lines of a trace.
 use Rattle.std.specs.Prelude.{ℕ, ◌^◌, ◌<◌, ◌≤◌, List, ◌++◌, codes, decimal}
 use Rattle.trace_print.specs.declared.items.TraceItem.{TraceItem}
-use Rattle.trace_print.specs.declared.items.TraceItem.TheVariants.{On, Debug, Halt, Boot, Reset, Dead, Pin, End, Stop}
+use Rattle.trace_print.specs.declared.items.TraceItem.TheVariants.{On, Debug, Halt, Erase, Boot, Reset, Dead, Cut, Pin, End}
 use Rattle.debug_port.specs.Commands.{IsAnswer, IsCommand}
 use Rattle.trace_print.specs.DebugLines.{debug_text}
 use Rattle.trace_print.specs.Digits.{hex_digits}
@@ -26,12 +26,13 @@ abbrev pub text_of : TraceItem → List ℕ
 text_of On = codes "ON"
 text_of (Debug command answer) = debug_text command answer
 text_of (Halt pc) = codes "HALT " ++ hex_digits 5 pc
+text_of Erase = codes "ERASE"
 text_of (Boot control first_border second_border) = boot_text control first_border second_border
 text_of (Reset cause) = codes "RST " ++ hex_digits 2 cause
 text_of Dead = codes "DEAD"
+text_of Cut = codes "CUT"
 text_of (Pin port levels) = codes "PIN P" ++ decimal port ++ codes " " ++ letters_of levels
 text_of End = codes "END"
-text_of Stop = codes "STOP"
 
 -- the whole line: the tick in decimal, a space, the text and a line feed
 unfoldable pub line_of : ℕ → TraceItem → List ℕ

@@ -11,6 +11,8 @@ pub enum TraceItem {
     Debug(Command, Answer),
     /// The processor was halted, with its PC.
     Halt(u32),
+    /// A boot began to erase FRAM.
+    Erase,
     /// A boot ended with these in force: the control bits of IP Encapsulation (MPUIPC0), its first and
     /// its second border as addresses.
     Boot(u8, u32, u32),
@@ -18,11 +20,11 @@ pub enum TraceItem {
     Reset(u8),
     /// The reset vector was FFFFh, so the processor stands still.
     Dead,
+    /// Power was cut.
+    Cut,
     /// The levels of a port changed: the port's number, from 1 to 4, and the new level of each bit, of
     /// which entry i is bit i.
     Pin(u8, [Level; 8]),
     /// The run is over.
     End,
-    /// The run ends early, at something that this emulator does not have yet.
-    Stop,
 }

@@ -38,14 +38,15 @@ fn push_item(line: &mut Line, item: &TraceItem)
         TraceItem::On => push_text(line, b"ON"),
         TraceItem::Debug(command, answer) => push_debug(line, command, answer),
         TraceItem::Halt(pc) => push_halt(line, *pc),
+        TraceItem::Erase => push_text(line, b"ERASE"),
         TraceItem::Boot(control, first_border, second_border) => {
             push_boot(line, *control, *first_border, *second_border)
         }
         TraceItem::Reset(cause) => push_reset(line, *cause),
         TraceItem::Dead => push_text(line, b"DEAD"),
+        TraceItem::Cut => push_text(line, b"CUT"),
         TraceItem::Pin(port, levels) => push_pin(line, *port, levels),
         TraceItem::End => push_text(line, b"END"),
-        TraceItem::Stop => push_text(line, b"STOP"),
     }
 }
 

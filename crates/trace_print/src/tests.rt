@@ -42,7 +42,8 @@ fn each_item_has_its_text(rt: HostRuntime) {
     shows(&rt, 2, TraceItem::Dead, "2 DEAD\n");
     shows(&rt, 7, TraceItem::Pin(1, first), "7 PIN P1 zzzzzzz0\n");
     shows(&rt, 24, TraceItem::Pin(2, second), "24 PIN P2 00001000\n");
-    shows(&rt, 7, TraceItem::Stop, "7 STOP\n");
+    shows(&rt, 7, TraceItem::Erase, "7 ERASE\n");
+    shows(&rt, 7, TraceItem::Cut, "7 CUT\n");
     shows(&rt, 1000, TraceItem::End, "1000 END\n");
     shows(&rt, 4_294_967_295, TraceItem::End, "4294967295 END\n");
 }

@@ -138,3 +138,24 @@ pub fn shows_code(
 ) -> Result<(), Fail> {
     shows(rt, &[(0x4400, code), (0xFFFE, &VECTOR)], bench, lines)
 }
+
+/// Runs an image of some stretches under a bench, and compares the whole text.
+pub fn traces(
+    rt: &(impl Abort + AllocGlobal),
+    stretches: &[(u32, &[u16])],
+    bench: &str,
+    text: &str,
+) -> Result<(), Fail> {
+    let file = image(rt.alloc(), stretches)?;
+    run_under(file.as_slice(), bench).gives(rt, Status::Done, text)
+}
+
+/// A structure that seals 04800h up to 05000h: the words of MPUIPC0, MPUIPSEGB2 and MPUIPSEGB1, and their check. It stands
+/// at 4810h, in the area itself.
+pub const STRUCTURE: [u16; 4] = [0x00C0, 0x0500, 0x0480, 0xFEBF];
+
+/// What stands at FF88h: the signature, and the address of the structure divided by 16.
+pub const SIGNED: [u16; 2] = [0xAAAA, 0x0481];
+
+/// JMP $, which takes two ticks.
+pub const WAIT: [u16; 1] = [0x3FFF];

@@ -23,13 +23,6 @@ fn writes_the_trace_of_an_image(rt: HostRuntime) -> Result<(), Fail> {
     )?;
     run_of(overlaid.as_slice()).gives(&rt, Status::Done, BLINK_TRACE)?;
 
-    // With the signature of IP Encapsulation the boot goes on to what isn't built.
-    let signed = image(
-        alloc,
-        &[(0x4400, &BLINK), (0xFF88, &[0xAAAA]), (0xFFFE, &VECTOR)],
-    )?;
-    run_of(signed.as_slice()).gives(&rt, Status::Done, "0 ON\n1 STOP\n")?;
-
     // Without a reset vector the processor is dead.
     let dead = image(alloc, &[(0x4400, &[0, 0, 0, 0])])?;
     run_of(dead.as_slice()).gives(

@@ -1,5 +1,7 @@
 mod benches;
+mod boots;
 mod cases;
+mod cuts;
 mod debugger;
 mod dma;
 mod encapsulation;

@@ -1,22 +1,16 @@
-use Rattle.std.proofs.Common.{◌∙◌, ◌+◌, ◌-◌, ◌++◌, sym, ap, arith}
+use Rattle.std.proofs.Common.{◌∙◌, ◌+◌, ap, arith}
 use Rattle.std.proofs.lemmas.Result.{on_err_weaker}
-use Rattle.bench_io.proofs.Writing.{goes_on, stops_in, finishes}
-use Rattle.capsule.specs.Trace.{text_of_lines}
-use Rattle.capsule.proofs.Texts.{tick_parts, end_parts, left_from-stop, left_from-more, chip_after-more, ticked-tick}
+use Rattle.bench_io.proofs.Writing.{goes_on, stops_in}
+use Rattle.capsule.proofs.Texts.{tick_parts, end_parts, chip_after-more, ticked-tick}
 use Rattle.capsule.proofs.trace.write_trace.Goals as goal
 
 pub returns-in-Err-clause-front : goal.returns-in-Err-clause-front
 returns-in-Err-clause-front g c =
     stops_in _ _ _ _ _ _ _ c.loop-n.invariant.text (tick_parts c.args.end c.loop-n.n c.args.bench.now c.args.chip.now c.loop-n.chip c.as_slice.result.now c.loop-n-test.true c.loop-n.invariant.same_chip (c.as_slice.ensures.value ∙ c.tick.ensures.lines)) c.in-Err.ensures.front
 
-pub returns-then-is_stopped-clause-whole : goal.returns-then-is_stopped-clause-whole
-returns-then-is_stopped-clause-whole g c =
-    finishes _ _ _ _ (goes_on _ _ _ _ _ _ _ c.loop-n.invariant.text (tick_parts c.args.end c.loop-n.n c.args.bench.now c.args.chip.now c.loop-n.chip c.as_slice.result.now c.loop-n-test.true c.loop-n.invariant.same_chip (c.as_slice.ensures.value ∙ c.tick.ensures.lines)) c.in-Ok.ensures.whole)
-    (left_from-stop (c.args.end - (c.loop-n.n + 1)) (c.loop-n.n + 1) c.args.bench.now c.args.chip.now c.tick.new.self (chip_after-more c.loop-n.n c.args.bench.now c.args.chip.now c.loop-n.chip c.tick.new.self c.loop-n.invariant.same_chip c.tick.ensures.chip) (sym c.is_stopped.ensures ∙ c.if-is_stopped.true))
-
 pub loop-n-preserved : goal.loop-n-preserved
 loop-n-preserved g c = record {
-  text = goes_on _ _ _ _ _ _ _ c.loop-n.invariant.text ((tick_parts c.args.end c.loop-n.n c.args.bench.now c.args.chip.now c.loop-n.chip c.as_slice.result.now c.loop-n-test.true c.loop-n.invariant.same_chip (c.as_slice.ensures.value ∙ c.tick.ensures.lines)) ∙ ap (λ s. text_of_lines c.loop-n.n c.as_slice.result.now ++ s) (left_from-more (c.args.end - (c.loop-n.n + 1)) (c.loop-n.n + 1) c.args.bench.now c.args.chip.now c.tick.new.self (chip_after-more c.loop-n.n c.args.bench.now c.args.chip.now c.loop-n.chip c.tick.new.self c.loop-n.invariant.same_chip c.tick.ensures.chip) (sym c.is_stopped.ensures ∙ c.if-is_stopped.false))) c.in-Ok.ensures.whole;
+  text = goes_on _ _ _ _ _ _ _ c.loop-n.invariant.text (tick_parts c.args.end c.loop-n.n c.args.bench.now c.args.chip.now c.loop-n.chip c.as_slice.result.now c.loop-n-test.true c.loop-n.invariant.same_chip (c.as_slice.ensures.value ∙ c.tick.ensures.lines)) c.in-Ok.ensures.whole;
   uncounted = c.in-Ok.ensures.uncounted ∙ c.loop-n.invariant.uncounted;
   same_chip = chip_after-more c.loop-n.n c.args.bench.now c.args.chip.now c.loop-n.chip c.tick.new.self c.loop-n.invariant.same_chip c.tick.ensures.chip;
   same_tick = ap (λ chip. chip.tick) c.tick.ensures.chip ∙ ticked-tick c.args.bench.now c.loop-n.chip ∙ ap (λ n. n + 1) c.loop-n.invariant.same_tick;
