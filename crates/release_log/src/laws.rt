@@ -1,0 +1,15 @@
+ghost use Rattle.release_log.specs.Sound.{DebuggerComesFirst, StepsKeepFacts};
+
+/// Whatever step is made, by whomever, memory keeps its size, fill and budget stay, requests only join and none is
+/// below the debugger's, and the kept set keeps its borders and, where it is the seal, stays it. The end of a step
+/// keeps all that too, and leaves nothing noted.
+#[tactic(auto, using(crate::proofs::Steady::steps_keep_facts))]
+pub fn steps_keep_facts()
+    ensures { StepsKeepFacts }
+{}
+
+/// The debugger's reset is the least cause that is asked for: where it stands it is the one that is taken.
+#[tactic(auto, using(crate::proofs::Requests::debugger_comes_first))]
+pub fn debugger_comes_first()
+    ensures { DebuggerComesFirst }
+{}

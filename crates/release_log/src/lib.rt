@@ -1,0 +1,9 @@
+//! Laws of runs, from the definitions of accesses, steps and ticks alone: what every step keeps, and what the first
+//! writes of a tick leave.
+//!
+//! The contract of each function in `laws` is a law. The functions do nothing.
+#![tactic(auto)]
+
+mod laws;
+
+pub use laws::{debugger_comes_first, steps_keep_facts};
