@@ -1,3 +1,4 @@
+ghost use Rattle.release_log.specs.Registers.{InstructionsLeaveRegisters};
 ghost use Rattle.release_log.specs.Sound.{DebuggerComesFirst, StepsKeepFacts};
 
 /// Whatever step is made, by whomever, memory keeps its size, fill and budget stay, requests only join and none is
@@ -12,4 +13,11 @@ pub fn steps_keep_facts()
 #[tactic(auto, using(crate::proofs::Requests::debugger_comes_first))]
 pub fn debugger_comes_first()
     ensures { DebuggerComesFirst }
+{}
+
+/// Whatever its accesses are answered, an instruction leaves registers of their kind: PC is even, SR has nine bits,
+/// R3 is 0, and all have 20 bits.
+#[tactic(auto, using(crate::proofs::Registers::instructions_leave_registers))]
+pub fn instructions_leave_registers()
+    ensures { InstructionsLeaveRegisters }
 {}

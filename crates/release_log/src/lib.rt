@@ -6,4 +6,4 @@
 
 mod laws;
 
-pub use laws::{debugger_comes_first, steps_keep_facts};
+pub use laws::{debugger_comes_first, instructions_leave_registers, steps_keep_facts};
