@@ -1,3 +1,4 @@
 pub mod Requests
 pub mod Steady
 pub mod Registers
+pub mod Firsts

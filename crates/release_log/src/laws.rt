@@ -1,5 +1,6 @@
 ghost use Rattle.release_log.specs.Registers.{InstructionsLeaveRegisters};
 ghost use Rattle.release_log.specs.Sound.{DebuggerComesFirst, StepsKeepFacts};
+ghost use Rattle.release_log.specs.Writes.{StepsHoldFirst};
 
 /// Whatever step is made, by whomever, memory keeps its size, fill and budget stay, requests only join and none is
 /// below the debugger's, and the kept set keeps its borders and, where it is the seal, stays it. The end of a step
@@ -20,4 +21,10 @@ pub fn debugger_comes_first()
 #[tactic(auto, using(crate::proofs::Registers::instructions_leave_registers))]
 pub fn instructions_leave_registers()
     ensures { InstructionsLeaveRegisters }
+{}
+
+/// A step of a tick whose power is cut leaves in memory exactly the first of its writes, as many as the budget left,
+/// each whole, as far as it was allowed when it was made.
+pub fn steps_hold_first()
+    ensures { StepsHoldFirst }
 {}

@@ -6,4 +6,6 @@
 
 mod laws;
 
-pub use laws::{debugger_comes_first, instructions_leave_registers, steps_keep_facts};
+pub use laws::{
+    debugger_comes_first, instructions_leave_registers, steps_hold_first, steps_keep_facts,
+};
