@@ -2,3 +2,5 @@ pub mod Requests
 pub mod Steady
 pub mod Registers
 pub mod Firsts
+pub mod Missed
+pub mod Locked

@@ -1,3 +1,4 @@
 pub mod Sound
 pub mod Registers
 pub mod Writes
+pub mod Locked

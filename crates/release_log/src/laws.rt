@@ -1,6 +1,7 @@
+ghost use Rattle.release_log.specs.Locked.{LockOutlastsSteps};
 ghost use Rattle.release_log.specs.Registers.{InstructionsLeaveRegisters};
 ghost use Rattle.release_log.specs.Sound.{DebuggerComesFirst, StepsKeepFacts};
-ghost use Rattle.release_log.specs.Writes.{StepsHoldFirst};
+ghost use Rattle.release_log.specs.Writes.{StepsHoldFirst, StepsLeaveMissed};
 
 /// Whatever step is made, by whomever, memory keeps its size, fill and budget stay, requests only join and none is
 /// below the debugger's, and the kept set keeps its borders and, where it is the seal, stays it. The end of a step
@@ -16,6 +17,13 @@ pub fn debugger_comes_first()
     ensures { DebuggerComesFirst }
 {}
 
+/// With MPUIPLOCK set no step changes the registers of the encapsulation or the addresses that stay secret, whatever
+/// it writes. Its end leaves them, and memory, in any case.
+#[tactic(auto, using(crate::proofs::Locked::lock_outlasts_steps))]
+pub fn lock_outlasts_steps()
+    ensures { LockOutlastsSteps }
+{}
+
 /// Whatever its accesses are answered, an instruction leaves registers of their kind: PC is even, SR has nine bits,
 /// R3 is 0, and all have 20 bits.
 #[tactic(auto, using(crate::proofs::Registers::instructions_leave_registers))]
@@ -27,4 +35,9 @@ pub fn instructions_leave_registers()
 /// each whole, as far as it was allowed when it was made.
 pub fn steps_hold_first()
     ensures { StepsHoldFirst }
+{}
+
+/// A step leaves each byte that none of its allowed writes is to.
+pub fn steps_leave_missed()
+    ensures { StepsLeaveMissed }
 {}

@@ -7,5 +7,6 @@
 mod laws;
 
 pub use laws::{
-    debugger_comes_first, instructions_leave_registers, steps_hold_first, steps_keep_facts,
+    debugger_comes_first, instructions_leave_registers, lock_outlasts_steps, steps_hold_first,
+    steps_keep_facts, steps_leave_missed,
 };
