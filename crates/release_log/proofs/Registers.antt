@@ -34,7 +34,8 @@ use Rattle.step_laws.specs.Fetches.{BehindFetches, four_words}
 use Rattle.step_laws.specs.Status.{Ends}
 use Rattle.step_laws.proofs.Fetched.{behind_fetches}
 use Rattle.step_laws.proofs.Shapes.{either_holds}
-use Rattle.release_log.specs.Registers.{InstructionsLeaveRegisters}
+use Rattle.chip_core.specs.Entry.{entry, in_interrupt}
+use Rattle.release_log.specs.Registers.{EntriesLeaveRegisters, InstructionsLeaveRegisters}
 
 -- ---- scripts
 
@@ -386,3 +387,14 @@ instructions_leave_registers registers are =
     Ends-fetched LeavesRegisters [] (instruction registers)
     (behind_fetches (λ words rest. Ends LeavesRegisters rest) registers
     (λ words at next. step_of_words-Ends (four_words words) at next registers are))
+
+-- ---- the entry
+
+in_interrupt-Are :
+    (word : ℕ) (registers : List ℕ) → AreRegisters registers → AreRegisters (in_interrupt word registers)
+in_interrupt-Are word registers are =
+    with_register-Are _ PC word (with_register-Are _ SR _ (with_register-Are registers SP _ are))
+
+pub entries_leave_registers : EntriesLeaveRegisters
+unfolding entry
+entries_leave_registers vector registers are = λ first. λ second. λ word. in_interrupt-Are word registers are

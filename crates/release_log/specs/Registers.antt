@@ -1,6 +1,7 @@
--- What an instruction leaves of the registers.
+-- What an instruction and an entry leave of the registers.
 use Rattle.std.specs.Prelude.{ℕ, List}
 use Rattle.chip_words.specs.Registers.{AreRegisters}
+use Rattle.chip_core.specs.Entry.{entry}
 use Rattle.cpux_extended.specs.Instruction.{instruction}
 use Rattle.step_laws.specs.Status.{Ends}
 
@@ -10,3 +11,8 @@ abbrev pub InstructionsLeaveRegisters : Type 0
 InstructionsLeaveRegisters =
     (registers : List ℕ) → AreRegisters registers →
     Ends (λ stepped. AreRegisters stepped.registers) (instruction registers)
+
+-- and so does the entry by each vector
+abbrev pub EntriesLeaveRegisters : Type 0
+EntriesLeaveRegisters =
+    (vector : ℕ) (registers : List ℕ) → AreRegisters registers → Ends AreRegisters (entry vector registers)

@@ -1,5 +1,5 @@
 ghost use Rattle.release_log.specs.Locked.{LockOutlastsSteps};
-ghost use Rattle.release_log.specs.Registers.{InstructionsLeaveRegisters};
+ghost use Rattle.release_log.specs.Registers.{EntriesLeaveRegisters, InstructionsLeaveRegisters};
 ghost use Rattle.release_log.specs.Sound.{DebuggerComesFirst, StepsKeepFacts};
 ghost use Rattle.release_log.specs.Writes.{StepsHoldFirst, StepsLeaveMissed};
 
@@ -29,6 +29,12 @@ pub fn lock_outlasts_steps()
 #[tactic(auto, using(crate::proofs::Registers::instructions_leave_registers))]
 pub fn instructions_leave_registers()
     ensures { InstructionsLeaveRegisters }
+{}
+
+/// So does the entry into an interrupt, by whatever vector.
+#[tactic(auto, using(crate::proofs::Registers::entries_leave_registers))]
+pub fn entries_leave_registers()
+    ensures { EntriesLeaveRegisters }
 {}
 
 /// A step of a tick whose power is cut leaves in memory exactly the first of its writes, as many as the budget left,

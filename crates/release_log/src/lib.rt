@@ -7,6 +7,6 @@
 mod laws;
 
 pub use laws::{
-    debugger_comes_first, instructions_leave_registers, lock_outlasts_steps, steps_hold_first,
-    steps_keep_facts, steps_leave_missed,
+    debugger_comes_first, entries_leave_registers, instructions_leave_registers,
+    lock_outlasts_steps, steps_hold_first, steps_keep_facts, steps_leave_missed,
 };
