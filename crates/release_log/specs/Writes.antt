@@ -24,6 +24,7 @@ pub record StepWrite : Type 0 where
   -- it had its right when it was made
   pub allowed : Bool
 
+-- a right is there
 abbrev pub is_allowed : Right → Bool
 is_allowed Yes = true
 is_allowed (No place) = false
@@ -32,11 +33,12 @@ is_allowed (No place) = false
 abbrev pub write_by : Right → ℕ → Size → ℕ → StepWrite
 write_by right at size value = record { at = at; size = size; value = value; allowed = is_allowed right }
 
--- the write that an access makes, where it is one
+-- the write that an access of kind Write makes
 abbrev pub write_made : Agent → ℕ → Size → ℕ → BusPart → StepWrite
 write_made who at size value part =
     write_by (right_of part.units who Write (aligned size at)) (aligned size at) size value
 
+-- the writes of one access: of a read or a fetch there is none
 abbrev pub write_of : Agent → Kind → ℕ → Size → ℕ → BusPart → List StepWrite
 write_of who Write at size value part = write_made who at size value part ∷ []
 write_of who kind at size value part = []
