@@ -2,3 +2,4 @@ pub mod Sound
 pub mod Registers
 pub mod Writes
 pub mod Locked
+pub mod Facts
