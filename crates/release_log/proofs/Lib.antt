@@ -4,3 +4,4 @@ pub mod Registers
 pub mod Firsts
 pub mod Missed
 pub mod Locked
+pub mod Running
