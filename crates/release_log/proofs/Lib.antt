@@ -5,3 +5,4 @@ pub mod Firsts
 pub mod Missed
 pub mod Locked
 pub mod Running
+pub mod Ending
