@@ -6,3 +6,4 @@ pub mod Missed
 pub mod Locked
 pub mod Running
 pub mod Ending
+pub mod Booting
