@@ -1,11 +1,11 @@
 -- A step of the boot: what it leaves of the facts, in a tick that isn't cut and in one that is.
-use Rattle.std.proofs.Common.{◌≡◌, ◌%◌, ℕ, List, Bool, true, false, length, arith, refl, ap, sym, ◌∙◌, subst, if◌then◌else◌}
+use Rattle.std.proofs.Common.{◌≡◌, ◌%◌, ℕ, List, Bool, true, false, length, arith, refl, ap, sym, ◌∙◌, subst}
 use Rattle.std.specs.Prelude.{Option, Some, None}
 use Rattle.std.proofs.lemmas.Bool.Decides.{nat_tests}
 use Rattle.chip_words.specs.declared.sizes.Size.TheVariants.{Word}
 use Rattle.chip_words.specs.declared.accesses.Agent.TheVariants as by
 use Rattle.chip_words.specs.declared.accesses.Kind.TheVariants.{Write}
-use Rattle.chip_words.specs.Access.{Accessed, access, is_over, next_number, numbered}
+use Rattle.chip_words.specs.Access.{Accessed, is_over, next_number, numbered}
 use Rattle.chip_words.specs.BusPart.{BusPart}
 use Rattle.chip_words.specs.Causes.{no_causes}
 use Rattle.chip_words.specs.Map.{aligned, is_fram}
@@ -31,7 +31,7 @@ use Rattle.boot_code.proofs.Accesses.{word_read-is}
 use Rattle.boot_code.proofs.Fitting.{step_stays_fit}
 use Rattle.right_laws.specs.Ends.{requests}
 use Rattle.step_laws.proofs.Shapes.{either_holds}
-use Rattle.chip_core.specs.Boot.{acted, after_boot_step, boot_ended, boot_run, ended_unless_cut, is_next_over, reset_vector}
+use Rattle.chip_core.specs.Boot.{acted, after_boot_step, boot_ended, boot_run, ended_unless_cut, is_next_over}
 use Rattle.chip_core.specs.Phase.{is_up}
 use Rattle.chip_core.specs.State.{State}
 use Rattle.chip_core.specs.Turns.{boot_turn}

@@ -1,18 +1,14 @@
 -- The end of a tick: the reset, the cut, and what holds of the chip behind them.
 use Rattle.std.proofs.Common.{◌≡◌, ◌≢◌, ◌<◌, ◌&&◌, ℕ, List, Bool, true, false, length, slice_index, arith, refl, ap, sym, ◌∙◌, subst, if◌then◌else◌, zero, suc, replicate}
-use Rattle.std.specs.Prelude.{Option, Some, None, is_none}
+use Rattle.std.specs.Prelude.{Option, Some, None}
 use Rattle.std.proofs.lemmas.Bool.Decides.{nat_tests}
-use Rattle.chip_words.specs.declared.regions.Region.{Region}
-use Rattle.chip_words.specs.declared.regions.Region.TheVariants.{Periph, Info, Descriptor, Sram, Main, Vacant}
 use Rattle.chip_words.specs.BusPart.{BusPart}
-use Rattle.chip_words.specs.Causes.{is_of_bor, least_cause, no_causes}
-use Rattle.chip_words.specs.Encap.{Encap, seal}
-use Rattle.chip_words.specs.Map.{is_fram, is_sram, keeps_without_power, loses_without_power, region_at}
+use Rattle.chip_words.specs.Causes.{is_of_bor, no_causes}
+use Rattle.chip_words.specs.Map.{is_sram}
 use Rattle.chip_words.specs.Memory.{memory_size}
 use Rattle.chip_words.specs.Public.{IsSettled}
-use Rattle.chip_words.specs.Registers.{AreRegisters, PC, SR, no_registers, with_register}
+use Rattle.chip_words.specs.Registers.{AreRegisters, PC, SR, no_registers}
 use Rattle.access_laws.specs.Boots.{HasBorders}
-use Rattle.access_laws.proofs.Courses.{chosen, unchosen}
 use Rattle.access_laws.proofs.Masks.{seal-HasBorders}
 use Rattle.bus_fabric.specs.Memory.{sram_filled}
 use Rattle.bus_fabric.proofs.MemoryBy.{length-memory_by, same_memory, slice_index-memory_by}
@@ -20,13 +16,10 @@ use Rattle.interrupt_reset.proofs.LeastCause.{least_cause-none}
 use Rattle.boot_code.specs.Boot.{ERASING}
 use Rattle.boot_code.specs.Facts.{is_mark, is_unerased}
 use Rattle.right_laws.specs.Ends.{requests}
-use Rattle.step_laws.proofs.Shapes.{either_holds}
-use Rattle.chip_core.specs.Boot.{reset_vector}
 use Rattle.chip_core.specs.Phase.{is_up}
 use Rattle.chip_core.specs.State.{State}
 use Rattle.chip_core.specs.Tick.{after_bor, after_cause, after_puc, behind_tick, cut, reset, taken_cause}
 use Rattle.release_log.specs.Facts.{FitsChip, IsSound, IsUnpowered}
-use Rattle.release_log.specs.Sound.{DEBUGGER}
 use Rattle.release_log.proofs.Registers.{with_register-Are}
 use Rattle.release_log.proofs.Requests.{debugger_comes_first}
 use Rattle.release_log.proofs.Running.{IsRunning}

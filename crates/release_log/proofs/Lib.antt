@@ -7,3 +7,5 @@ pub mod Locked
 pub mod Running
 pub mod Ending
 pub mod Booting
+pub mod Kept
+pub mod Begins

@@ -3,16 +3,16 @@ use Rattle.std.proofs.Common.{◌≡◌, ◌<◌, ℕ, zero, suc, List, [], ◌�
 use Rattle.std.specs.Prelude.{Option, Some, None, nat_lt, ◌||◌, ◌-◌, slice_index}
 use Rattle.chip_words.specs.declared.accesses.Agent.{Agent}
 use Rattle.chip_words.specs.declared.accesses.Agent.TheVariants as by
-use Rattle.chip_words.specs.Access.{access, is_watched}
+use Rattle.chip_words.specs.Access.{access}
 use Rattle.chip_words.specs.BusPart.{BusPart}
-use Rattle.chip_words.specs.Causes.{DEBUG_RESET, RESERVED_WORD, WATCHDOG_INTERVAL, no_causes, with_cause}
+use Rattle.chip_words.specs.Causes.{DEBUG_RESET, WATCHDOG_INTERVAL, with_cause}
 use Rattle.chip_words.specs.Dma.{Dma}
 use Rattle.chip_words.specs.Interrupts.{Interrupt, entered_by, interrupts, units_entered}
 use Rattle.chip_words.specs.Memory.{memory_size}
 use Rattle.chip_words.specs.Public.{IsSettled}
-use Rattle.chip_words.specs.Registers.{AreRegisters, PC, with_register}
+use Rattle.chip_words.specs.Registers.{AreRegisters, PC}
 use Rattle.chip_words.specs.Script.{Ask, Return, Script, run}
-use Rattle.chip_words.specs.Steps.{begun, step_ended}
+use Rattle.chip_words.specs.Steps.{begun}
 use Rattle.chip_words.specs.Encap.{seal}
 use Rattle.chip_words.specs.Timers.{fired}
 use Rattle.chip_words.specs.Units.{Units, units_clocked, units_driven}
@@ -28,16 +28,13 @@ use Rattle.debug_port.specs.declared.commands.Command.TheVariants as command
 use Rattle.debug_port.specs.declared.states.Debug.{Debug}
 use Rattle.debug_port.specs.declared.states.DebugView.{DebugView}
 use Rattle.debug_port.specs.Commands.{Commanded, answered, bytes_from, carried_out, commanded, refusal_of, unless_refused}
-use Rattle.debug_port.specs.States.{halt_asked}
 use Rattle.dma_unit.specs.declared.transfers.Move.{Move}
 use Rattle.dma_unit.specs.Moves.{transfer}
-use Rattle.dma_unit.specs.Transfers.{due, move_at, passed, transferred}
+use Rattle.dma_unit.specs.Transfers.{move_at, passed, transferred}
 use Rattle.cpux_execute.specs.declared.outcomes.Outcome.{Outcome}
 use Rattle.cpux_execute.specs.declared.outcomes.Outcome.TheVariants.{Cycles, Reserved}
 use Rattle.cpux_execute.specs.Execution.{Stepped}
 use Rattle.cpux_extended.specs.Instruction.{instruction}
-use Rattle.power_schedule.specs.declared.powers.Power.{Power}
-use Rattle.power_schedule.specs.declared.powers.Power.TheVariants.{On, Cut, Off}
 use Rattle.stimulus.specs.declared.events.Event.{Event}
 use Rattle.stimulus.specs.declared.events.EventAct.{EventAct}
 use Rattle.stimulus.specs.declared.events.EventAct.TheVariants.{Pin, Debug as Told}
@@ -342,9 +339,25 @@ entered_by-Leaves (row ∷ rows) vector units leave =
 
 interrupts-Leave : (units : Units) → LeavesAll interrupts units
 interrupts-Leave units =
-    let one : LeavesRequests units units = record { requested = refl; encap = refl } in
-    (record { requested = refl; encap = refl }, (one, (record { requested = refl; encap = refl }, (one, (record { requested = refl; encap = refl }, (one,
-    (one, (record { requested = refl; encap = refl }, (one, (one, (one, (one, (one, tt)))))))))))))
+    let one : LeavesRequests units units = record { requested = refl; encap = refl } in (
+      record { requested = refl; encap = refl },
+      (
+        one,
+        (
+          record { requested = refl; encap = refl },
+          (
+            one,
+            (
+              record { requested = refl; encap = refl },
+              (
+                one,
+                (one, (record { requested = refl; encap = refl }, (one, (one, (one, (one, (one, tt))))))),
+              ),
+            ),
+          ),
+        ),
+      ),
+    )
 
 units_entered-Leaves : (vector : ℕ) (units : Units) → LeavesRequests units (units_entered vector units)
 unfolding units_entered

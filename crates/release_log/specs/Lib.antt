@@ -3,3 +3,4 @@ pub mod Registers
 pub mod Writes
 pub mod Locked
 pub mod Facts
+pub mod RunFacts

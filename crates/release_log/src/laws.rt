@@ -1,5 +1,6 @@
 ghost use Rattle.release_log.specs.Locked.{LockOutlastsSteps};
 ghost use Rattle.release_log.specs.Registers.{EntriesLeaveRegisters, InstructionsLeaveRegisters};
+ghost use Rattle.release_log.specs.RunFacts.{RunKeepsFacts, RunLosesPowerByCuts, TickKeepsFacts};
 ghost use Rattle.release_log.specs.Sound.{DebuggerComesFirst, StepsKeepFacts};
 ghost use Rattle.release_log.specs.Writes.{StepsHoldFirst, StepsLeaveMissed};
 
@@ -46,4 +47,22 @@ pub fn steps_hold_first()
 /// A step leaves each byte that none of its allowed writes is to.
 pub fn steps_leave_missed()
     ensures { StepsLeaveMissed }
+{}
+
+/// Each tick keeps what holds of a chip between two ticks, whatever its power is and whatever a bench brings in it.
+#[tactic(auto, using(crate::proofs::Kept::tick_keeps_facts))]
+pub fn tick_keeps_facts()
+    ensures { TickKeepsFacts }
+{}
+
+/// So it holds of every chip of a run, whatever the image and the bench are.
+#[tactic(auto, using(crate::proofs::Begins::run_keeps_facts))]
+pub fn run_keeps_facts()
+    ensures { RunKeepsFacts }
+{}
+
+/// A tick of a run that is without power finds power off: it was cut before.
+#[tactic(auto, using(crate::proofs::Begins::run_loses_power_by_cuts))]
+pub fn run_loses_power_by_cuts()
+    ensures { RunLosesPowerByCuts }
 {}
