@@ -199,7 +199,7 @@ events-budget place (event ∷ events) chip is =
     events-budget place events (after_event event.act chip) (event-IsBooting place event.act chip is)
     ∙ event-budget place event.act chip is
 
-passed-IsBooting : (place : Place) (chip : State) → IsBooting place chip → IsBooting place (with_dma passed chip)
+pub passed-IsBooting : (place : Place) (chip : State) → IsBooting place chip → IsBooting place (with_dma passed chip)
 passed-IsBooting place chip is = record {
   powered = is.powered;
   boot = is.boot;

@@ -9,3 +9,5 @@ pub mod Ending
 pub mod Booting
 pub mod Kept
 pub mod Begins
+pub mod Installs
+pub mod Stands

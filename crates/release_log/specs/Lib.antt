@@ -4,3 +4,4 @@ pub mod Writes
 pub mod Locked
 pub mod Facts
 pub mod RunFacts
+pub mod Boots
