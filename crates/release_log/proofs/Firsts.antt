@@ -150,7 +150,7 @@ first_of_none : (memory : List ℕ) (n : ℕ) → with_writes memory (take n [])
 first_of_none memory zero = refl
 first_of_none memory (suc n) = refl
 
-take-append :
+pub take-append :
     {A : Type 0} (n : ℕ) (one other : List A) → take n (one ++ other) ≡ take n one ++ take (n - length one) other
 take-append zero [] other = refl
 take-append (suc n) [] other =
@@ -190,16 +190,16 @@ HoldsFirst-then one other budget a b c first second =
 
 -- ---- one access
 
-over-absent :
+pub over-absent :
     (budget n : ℕ) → budget < END_OF_COUNT → budget - n ≡ 0 → is_over (Some budget) (next_number n) ≡ true
 over-absent budget n below e = grind (arith, nat_tests)
 
-over-present :
+pub over-present :
     (budget n left : ℕ) → budget < END_OF_COUNT → budget - n ≡ suc left →
     is_over (Some budget) (next_number n) ≡ false
 over-present budget n left below e = grind (arith, nat_tests)
 
-next-left : (budget n : ℕ) → budget < END_OF_COUNT → budget - next_number n ≡ budget - n - 1
+pub next-left : (budget n : ℕ) → budget < END_OF_COUNT → budget - next_number n ≡ budget - n - 1
 next-left budget n below = omega arith
 
 write-HoldsFirst :

@@ -11,3 +11,4 @@ pub mod Kept
 pub mod Begins
 pub mod Installs
 pub mod Stands
+pub mod Shorts

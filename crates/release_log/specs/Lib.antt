@@ -5,3 +5,4 @@ pub mod Locked
 pub mod Facts
 pub mod RunFacts
 pub mod Boots
+pub mod Puts

@@ -1,5 +1,6 @@
 ghost use Rattle.release_log.specs.Boots.{BootInstalls, BootKeepsKept};
 ghost use Rattle.release_log.specs.Locked.{LockOutlastsSteps};
+ghost use Rattle.release_log.specs.Puts.{CutHoldsFirst};
 ghost use Rattle.release_log.specs.Registers.{EntriesLeaveRegisters, InstructionsLeaveRegisters};
 ghost use Rattle.release_log.specs.RunFacts.{RunKeepsFacts, RunLosesPowerByCuts, TickKeepsFacts};
 ghost use Rattle.release_log.specs.Sound.{DebuggerComesFirst, StepsKeepFacts};
@@ -80,4 +81,10 @@ pub fn boot_installs()
 #[tactic(auto, using(crate::proofs::Stands::boot_keeps_kept))]
 pub fn boot_keeps_kept()
     ensures { BootKeepsKept }
+/// A tick whose power is cut leaves in FRAM, mark and pointer exactly the first of its writes, as many as the cut says,
+/// each whole, as far as it was allowed when it was made: those of the debugger, and then those of the boot, DMA or the
+/// processor. SRAM holds the fill.
+#[tactic(auto, using(crate::proofs::Shorts::cut_holds_first))]
+pub fn cut_holds_first()
+    ensures { CutHoldsFirst }
 {}
