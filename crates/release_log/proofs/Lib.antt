@@ -12,3 +12,4 @@ pub mod Begins
 pub mod Installs
 pub mod Stands
 pub mod Shorts
+pub mod Erases

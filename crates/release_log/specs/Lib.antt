@@ -6,3 +6,4 @@ pub mod Facts
 pub mod RunFacts
 pub mod Boots
 pub mod Puts
+pub mod Erasing

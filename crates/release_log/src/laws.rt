@@ -1,4 +1,5 @@
 ghost use Rattle.release_log.specs.Boots.{BootInstalls, BootKeepsKept};
+ghost use Rattle.release_log.specs.Erasing.{EraseIsAlone};
 ghost use Rattle.release_log.specs.Locked.{LockOutlastsSteps};
 ghost use Rattle.release_log.specs.Puts.{CutHoldsFirst};
 ghost use Rattle.release_log.specs.Registers.{EntriesLeaveRegisters, InstructionsLeaveRegisters};
@@ -87,4 +88,11 @@ pub fn boot_keeps_kept()
 #[tactic(auto, using(crate::proofs::Shorts::cut_holds_first))]
 pub fn cut_holds_first()
     ensures { CutHoldsFirst }
+{}
+
+/// From the chip whose mark says that an erase has begun, until one whose FRAM is blank, the boot acts and nothing else
+/// does, whatever cuts come: there is no instruction, no entry and no transfer of DMA, and each command of the debugger
+/// is answered that the boot isn't done.
+pub fn erase_is_alone()
+    ensures { EraseIsAlone }
 {}

@@ -13,4 +13,5 @@ pub use laws::{
     cut_holds_first, debugger_comes_first, entries_leave_registers, instructions_leave_registers,
     lock_outlasts_steps, run_keeps_facts, run_loses_power_by_cuts, steps_hold_first,
     steps_keep_facts, steps_leave_missed, tick_keeps_facts,
+    cut_holds_first, debugger_comes_first, entries_leave_registers, erase_is_alone,
 };
