@@ -126,7 +126,7 @@ step_stays_fit (DoneWith p words) keep part u f = f
 step_stays_fit DoneWithout keep part u f = f
 
 -- four words that are those of memory are its structure
-structure-same : (x y : Structure) → x.control ≡ y.control → x.second_border ≡ y.second_border → x.first_border ≡ y.first_border → x.check ≡ y.check → x ≡ y
+pub structure-same : (x y : Structure) → x.control ≡ y.control → x.second_border ≡ y.second_border → x.first_border ≡ y.first_border → x.check ≡ y.check → x ≡ y
 structure-same x y c s f k =
     ap (λ w. structure w x.second_border x.first_border x.check) c
     ∙ ap (λ w. structure y.control w x.first_border x.check) s

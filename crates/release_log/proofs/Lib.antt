@@ -13,3 +13,5 @@ pub mod Installs
 pub mod Stands
 pub mod Shorts
 pub mod Erases
+pub mod Spared
+pub mod Held

@@ -7,3 +7,4 @@ pub mod RunFacts
 pub mod Boots
 pub mod Puts
 pub mod Erasing
+pub mod Lasting
