@@ -15,3 +15,5 @@ pub mod Shorts
 pub mod Erases
 pub mod Spared
 pub mod Held
+pub mod Holds
+pub mod Lasts
