@@ -136,7 +136,8 @@ power_at-MayFollow cuts tick =
 
 -- the powers of two ticks, one behind the other
 power-MayFollow : (bench : Stimulus) (chip : State) → MayFollow (power_of bench chip) (power_of bench (ticked bench chip))
-power-MayFollow bench chip = tt
+unfolding ticked
+power-MayFollow bench chip = power_at-MayFollow bench.cuts chip.tick
 
 first-MayBeOff : (power : Power) (image : List Segment) (fill : ℕ) → MayBeOff power (first_state image fill)
 first-MayBeOff On image fill = tt

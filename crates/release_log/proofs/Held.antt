@@ -1,4 +1,5 @@
--- What outlasts a boot and a cut, where the image seals itself: whatever is saved is the image's, and the structure stands.
+-- What outlasts a boot and a cut, where the image seals itself: whatever is saved is the image's, and the structure
+-- stands.
 use Rattle.std.proofs.Common.{◌≡◌, ◌<◌, ◌+◌, ◌*◌, ◌%◌, ◌==◌, ℕ, List, Bool, true, false, slice_index, arith, refl, ap, sym, ◌∙◌, subst, if◌then◌else◌}
 use Rattle.std.specs.Prelude.{Option, Some, None}
 use Rattle.std.proofs.lemmas.Bool.Decides.{nat_tests}
@@ -104,18 +105,18 @@ Stands image (Some place) keep encap = is_lasting place ≡ true
 Stands image None keep encap = (keep.mark ≡ SAVED) × (encap ≡ image_encap image)
 
 pub record IsHeld (image : List Segment) (chip : State) : Type 0 where
-  pub rests : Rests image chip.keep (chip.bus).memory
-  pub kept : (chip.bus).kept ≡ image_seal image
-  pub stands : Stands image chip.boot chip.keep ((chip.bus).units).encap
+  pub rests : Rests image chip.keep chip.bus.memory
+  pub kept : chip.bus.kept ≡ image_seal image
+  pub stands : Stands image chip.boot chip.keep chip.bus.units.encap
 
 -- ---- a step of a boot
 
 -- a chip with this place next
 pub record CanBoot (image : List Segment) (place : Place) (chip : State) : Type 0 where
-  pub rests : Rests image chip.keep (chip.bus).memory
-  pub kept : (chip.bus).kept ≡ image_seal image
+  pub rests : Rests image chip.keep chip.bus.memory
+  pub kept : chip.bus.kept ≡ image_seal image
   pub lasting : is_lasting place ≡ true
-  pub fit : Fits place chip.keep (chip.bus).memory
+  pub fit : Fits place chip.keep chip.bus.memory
 
 -- the pointer of a boot is the image's
 pointer-same :
@@ -145,10 +146,12 @@ started-lasting keep unerased = by_erasing (keep.mark == ERASING) refl
 signed-lasting : (word : ℕ) → word ≡ SIGNATURE → is_lasting (signed word) ≡ true
 signed-lasting word e = ap (λ word. is_lasting (signed word)) e
 
-checked-lasting : (keep : Keep) (p : ℕ) (words : Structure) → is_good words ≡ true → is_lasting (checked keep p words) ≡ true
+checked-lasting :
+    (keep : Keep) (p : ℕ) (words : Structure) → is_good words ≡ true → is_lasting (checked keep p words) ≡ true
 checked-lasting keep p words good =
-    ap is_lasting (chosen (is_good words) (if keep.mark == SAVED then DoneWith p words else SavePtr p words) MarkErase good)
-    ∙ either_holds (λ (place : Place). is_lasting place ≡ true) (keep.mark == SAVED) (DoneWith p words) (SavePtr p words)
+    let found : Place = if keep.mark == SAVED then DoneWith p words else SavePtr p words in
+    ap is_lasting (chosen (is_good words) found MarkErase good)
+    ∙ either_holds (λ (next : Place). is_lasting next ≡ true) (keep.mark == SAVED) (DoneWith p words) (SavePtr p words)
     refl refl
 
 -- the words at the image's pointer are its structure
@@ -181,7 +184,8 @@ boot-IsHeld image Sig chip seals can =
     read-IsHeld image chip SIGNATURE_AT (λ word. act.Nothing) signed refl
     (record { rests = can.rests; kept = can.kept; stands = signed-lasting _ (can.rests.signed can.fit) })
 boot-IsHeld image Ptr chip seals can =
-    read-IsHeld image chip POINTER_AT (λ word. act.Nothing) Word0 refl (record { rests = can.rests; kept = can.kept; stands = refl })
+    read-IsHeld image chip POINTER_AT (λ word. act.Nothing) Word0 refl
+    (record { rests = can.rests; kept = can.kept; stands = refl })
 boot-IsHeld image (Word0 p) chip seals can =
     read-IsHeld image chip (word_at p 0) (act.Struct 0) (Word1 p) (word_at-even p 0)
     (record { rests = can.rests; kept = can.kept; stands = refl })
@@ -192,20 +196,22 @@ boot-IsHeld image (Word2 p w0 w1) chip seals can =
     read-IsHeld image chip (word_at p 2) (act.Struct 2) (Word3 p w0 w1) (word_at-even p 2)
     (record { rests = can.rests; kept = can.kept; stands = refl })
 boot-IsHeld image (Word3 p w0 w1 w2) chip seals can =
-    let memory = (chip.bus).memory in
+    let memory = chip.bus.memory in
     let words = structure w0 w1 w2 (boot_word memory (word_at p 3)) in
     let here : words ≡ structure_at memory p =
     structure-same words (structure_at memory p) can.fit.1 can.fit.2 can.fit.3 refl in
     let same : p ≡ image_pointer image = pointer-same image chip.keep memory p can.rests can.fit.0 in
-    let known : words ≡ image_structure image = words-of-image image chip.keep memory p words seals can.rests same here in
+    let known : words ≡ image_structure image =
+    words-of-image image chip.keep memory p words seals can.rests same here in
     let good : is_good words ≡ true = ap is_good known ∙ (image-GivesSeal image seals).good in
-    read-IsHeld image chip (word_at p 3) (act.Struct 3) (λ word. checked chip.keep p (structure w0 w1 w2 word)) (word_at-even p 3)
+    read-IsHeld image chip (word_at p 3) (act.Struct 3) (λ word. checked chip.keep p (structure w0 w1 w2 word))
+    (word_at-even p 3)
     (record { rests = can.rests; kept = can.kept; stands = checked-lasting chip.keep p words good })
 boot-IsHeld image (SavePtr p words) chip seals can =
     let empty : chip.keep.mark ≡ EMPTY = can.fit.0 in
     record {
       rests =
-          either_holds (λ (keep : Keep). Rests image keep (chip.bus).memory) (is_next_over chip.bus) chip.keep
+          either_holds (λ (keep : Keep). Rests image keep chip.bus.memory) (is_next_over chip.bus) chip.keep
           (record (chip.keep) { ptr = p }) can.rests
           (record {
             marked = can.rests.marked;
@@ -218,10 +224,10 @@ boot-IsHeld image (SavePtr p words) chip seals can =
       stands = refl;
     }
 boot-IsHeld image (SaveMark p words) chip seals can =
-    let same : p ≡ image_pointer image = pointer-same image chip.keep (chip.bus).memory p can.rests can.fit.1 in
+    let same : p ≡ image_pointer image = pointer-same image chip.keep chip.bus.memory p can.rests can.fit.1 in
     record {
       rests =
-          either_holds (λ (keep : Keep). Rests image keep (chip.bus).memory) (is_next_over chip.bus) chip.keep
+          either_holds (λ (keep : Keep). Rests image keep chip.bus.memory) (is_next_over chip.bus) chip.keep
           (record (chip.keep) { mark = SAVED }) can.rests
           (record {
             marked = refl;
@@ -233,14 +239,14 @@ boot-IsHeld image (SaveMark p words) chip seals can =
       kept = can.kept;
       stands = refl;
     }
-boot-IsHeld image (DoneWith p words) chip seals can = by_budget (chip.bus).budget
+boot-IsHeld image (DoneWith p words) chip seals can = by_budget chip.bus.budget
   where
     read : State
     read = record chip { bus = begun chip.bus; boot = Some (DoneWith p words) }
 
     known : words ≡ image_structure image
     known =
-        let memory = (chip.bus).memory in
+        let memory = chip.bus.memory in
         let is : IsStructure memory p words = can.fit.2 in
         let here : words ≡ structure_at memory p =
         structure-same words (structure_at memory p) is.control is.second_border is.first_border is.check in

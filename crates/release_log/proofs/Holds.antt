@@ -46,7 +46,7 @@ IsLit power lit = lit ≡ true
 -- a chip between the stages of a tick of this power, before its owner's turn
 pub record IsWithin (image : List Segment) (power : Power) (chip : State) : Type 0 where
   pub held : IsHeld image chip
-  pub fit : FitsChip chip.boot chip.keep (chip.bus).memory
+  pub fit : FitsChip chip.boot chip.keep chip.bus.memory
   pub lit : IsLit power chip.powered
 
 -- once the boot is done, the image's seal is in force
@@ -55,8 +55,8 @@ pub within-IsHolding :
     IsHolding image chip
 within-IsHolding image power chip booted is =
     let held = is.held in
-    let stands : Stands image None chip.keep ((chip.bus).units).encap =
-    subst (λ (boot : Option Place). Stands image boot chip.keep ((chip.bus).units).encap) booted held.stands in
+    let stands : Stands image None chip.keep chip.bus.units.encap =
+    subst (λ (boot : Option Place). Stands image boot chip.keep chip.bus.units.encap) booted held.stands in
     record {
       guarded = record {
         booted = booted;
@@ -81,7 +81,7 @@ holding-IsHeld image chip is =
       };
       kept = guarded.sealed.kept;
       stands =
-          subst (λ (boot : Option Place). Stands image boot chip.keep ((chip.bus).units).encap) (sym guarded.booted)
+          subst (λ (boot : Option Place). Stands image boot chip.keep chip.bus.units.encap) (sym guarded.booted)
           (guarded.marked, guarded.sealed.encap);
     }
 
@@ -93,7 +93,7 @@ holding-IsWithin image power chip lit is =
     record {
       held = held;
       fit =
-          subst (λ (boot : Option Place). FitsChip boot chip.keep (chip.bus).memory) (sym is.guarded.booted)
+          subst (λ (boot : Option Place). FitsChip boot chip.keep chip.bus.memory) (sym is.guarded.booted)
           held.rests.marked;
       lit = lit;
     }
@@ -136,7 +136,7 @@ no_erase Erase chip accepted none =
 no_erase (Read at) chip accepted none = refl
 no_erase (Write at value) chip accepted none = refl
 no_erase (Dump at count) chip accepted none =
-    ap (λ (ran : Ran Commanded). ((ran.value).debug).erase)
+    ap (λ (ran : Ran Commanded). ran.value.debug.erase)
     (run_then by.Debug (bytes_from count at) (λ bytes. answered (Bytes bytes) (debug_of chip) chip.registers) chip.bus)
 no_erase (Reg n) chip accepted none = refl
 no_erase (SetReg n value) chip accepted none = refl
@@ -150,13 +150,13 @@ no_erase Reset chip accepted none = refl
 accessed-IsHolding :
     (image : List Segment) (script : Script Commanded) (chip : State) → SealsItself image → IsHolding image chip →
     (let ran = run by.Debug script chip.bus in
-    ((ran.value).debug).erase ≡ false → IsHolding image (behind ran chip))
+    ran.value.debug.erase ≡ false → IsHolding image (behind ran chip))
 accessed-IsHolding image script chip seals is kept =
     let ran = run by.Debug script chip.bus in
     let guarded = is.guarded in
     let sealed = run-IsSealed image by.Debug script chip.bus seals guarded.sealed in
-    let told = reset_by (ran.value).debug (accessed ran chip) in
-    subst (IsHolding image) (sym (unchosen ((ran.value).debug).erase _ told kept))
+    let told = reset_by ran.value.debug (accessed ran chip) in
+    subst (IsHolding image) (sym (unchosen ran.value.debug.erase _ told kept))
     (record {
       guarded = record {
         booted = guarded.booted;
@@ -165,7 +165,7 @@ accessed-IsHolding image script chip seals is kept =
         sealed = record { encap = sealed.encap; kept = sealed.kept };
       };
       bytes =
-          same-HasStructure image (chip.bus).memory (ran.part).memory
+          same-HasStructure image chip.bus.memory ran.part.memory
           (run-structure image by.Debug script chip.bus seals guarded.sealed tt)
           is.bytes;
     })
@@ -174,7 +174,8 @@ command-IsWithin :
     (image : List Segment) (power : Power) (command : Command) (chip : State) → SealsItself image →
     IsNoErase (Commands command) chip → IsWithin image power chip → IsWithin image power (after_command command chip)
 unfolding after_command ran commanded
-command-IsWithin image power command chip seals none is = by_refusal (refusal_of command (view_of chip) (debug_of chip)) refl
+command-IsWithin image power command chip seals none is =
+    by_refusal (refusal_of command (view_of chip) (debug_of chip)) refl
   where
     Within : Option Answer → Type 0
     Within cause =
@@ -203,8 +204,8 @@ command-IsWithin image power command chip seals none is = by_refusal (refusal_of
         behind-lit : (script : Script Commanded) → IsLit power (behind (run by.Debug script chip.bus) chip).powered
         behind-lit script =
             let ran = run by.Debug script chip.bus in
-            either_holds (λ (after : State). IsLit power after.powered) ((ran.value).debug).erase _
-            (reset_by (ran.value).debug (accessed ran chip)) is.lit is.lit
+            either_holds (λ (after : State). IsLit power after.powered) ran.value.debug.erase _
+            (reset_by ran.value.debug (accessed ran chip)) is.lit is.lit
 
 event-IsWithin :
     (image : List Segment) (power : Power) (act : EventAct) (chip : State) → SealsItself image → IsNoErase act chip →
@@ -228,7 +229,7 @@ events-IsWithin image power (event ∷ events) chip seals none is =
 -- ---- power, and the timers
 
 lit-IsWithin :
-    (image : List Segment) (chip : State) → IsHeld image chip → FitsChip chip.boot chip.keep (chip.bus).memory →
+    (image : List Segment) (chip : State) → IsHeld image chip → FitsChip chip.boot chip.keep chip.bus.memory →
     (power : Power) → IsLit power true → IsWithin image power (powered_on chip)
 lit-IsWithin image chip held fit power lit = by_power chip.powered refl
   where
@@ -252,7 +253,7 @@ lit-IsWithin image chip held fit power lit = by_power chip.powered refl
 
 pub powered-IsWithin :
     (image : List Segment) (power : Power) (chip : State) → IsHeld image chip →
-    FitsChip chip.boot chip.keep (chip.bus).memory → IsWithin image power (powered power chip)
+    FitsChip chip.boot chip.keep chip.bus.memory → IsWithin image power (powered power chip)
 unfolding powered
 powered-IsWithin image On chip held fit =
     lit-IsWithin image (begun_by On chip)
@@ -315,15 +316,15 @@ place-IsHeld image power place chip seals next is =
       rests = is.held.rests;
       kept = is.held.kept;
       lasting =
-          subst (λ (boot : Option Place). Stands image boot chip.keep ((chip.bus).units).encap) next is.held.stands;
-      fit = subst (λ (boot : Option Place). FitsChip boot chip.keep (chip.bus).memory) next is.fit;
+          subst (λ (boot : Option Place). Stands image boot chip.keep chip.bus.units.encap) next is.held.stands;
+      fit = subst (λ (boot : Option Place). FitsChip boot chip.keep chip.bus.memory) next is.fit;
     })
 
 -- the processor's turn, which spares the structure where it is private
 processor-IsHeld :
     (image : List Segment) (power : Power) (chip : State) → SealsItself image → chip.boot ≡ None →
     chip.powered ≡ true →
-    (is_private chip ≡ true → HaveSameStructure image (chip.bus).memory (((processor_turn chip).chip).bus).memory) →
+    (is_private chip ≡ true → HaveSameStructure image chip.bus.memory (processor_turn chip).chip.bus.memory) →
     IsWithin image power chip → IsHeld image (processor_turn chip).chip
 processor-IsHeld image power chip seals booted lit spares is =
     let holding = within-IsHolding image power chip booted is in
@@ -331,13 +332,13 @@ processor-IsHeld image power chip seals booted lit spares is =
     (record {
       guarded = turn-IsGuarded image chip seals holding.guarded;
       bytes =
-          same-HasStructure image (chip.bus).memory (((processor_turn chip).chip).bus).memory
+          same-HasStructure image chip.bus.memory (processor_turn chip).chip.bus.memory
           (by_phase (is_private chip) refl) holding.bytes;
     })
   where
     by_phase :
         (private : Bool) → is_private chip ≡ private →
-        HaveSameStructure image (chip.bus).memory (((processor_turn chip).chip).bus).memory
+        HaveSameStructure image chip.bus.memory (processor_turn chip).chip.bus.memory
     by_phase true e = spares e
     by_phase false e =
         turn-structure image chip seals (within-IsHolding image power chip booted is).guarded lit e
@@ -363,7 +364,7 @@ owned-IsHeld image power ready seals lit is owner e spares = by_owner owner e sp
   where
     place : (owner : Owner) → owner_of ready ≡ owner → ready.boot ≡ boot_of owner
     place owner e =
-        owner-boot ready.boot ready.second_tick (due (ready.bus.units).dma) ∙ ap boot_of e
+        owner-boot ready.boot ready.second_tick (due ready.bus.units.dma) ∙ ap boot_of e
 
     by_owner :
         (owner : Owner) → owner_of ready ≡ owner → SparesStructure image (stages_by power ready owner) →
@@ -385,7 +386,7 @@ owned-IsHeld image power ready seals lit is owner e spares = by_owner owner e sp
 -- the chip behind its owner's turn
 pub stage-IsHeld :
     (image : List Segment) (power : Power) (ready : State) → SealsItself image → IsWithin image power ready →
-    SparesStructure image (stages_from power ready) → IsHeld image ((stages_from power ready).turn).chip
+    SparesStructure image (stages_from power ready) → IsHeld image (stages_from power ready).turn.chip
 unfolding owned
 stage-IsHeld image On ready seals is spares =
     owned-IsHeld image On ready seals is.lit is (owner_of ready) refl spares

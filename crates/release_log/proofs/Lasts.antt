@@ -1,15 +1,13 @@
 -- Behind every tick of a run the image's seal is to come back, or in force.
-use Rattle.std.proofs.Common.{◌≡◌, ◌<◌, ◌+◌, ◌*◌, ℕ, List, true, false, slice_index, zero, suc, arith, refl, ap, sym, ◌∙◌, subst, if◌then◌else◌}
+use Rattle.std.proofs.Common.{◌≡◌, ◌<◌, ◌+◌, ◌*◌, ℕ, List, true, slice_index, zero, suc, arith, refl, ap, sym, ◌∙◌, subst, if◌then◌else◌}
 use Rattle.std.specs.Prelude.{Option, Some, None}
 use Rattle.std.proofs.lemmas.Bool.Decides.{nat_tests}
 use Rattle.chip_words.specs.declared.sizes.Size.TheVariants.{Word}
 use Rattle.chip_words.specs.Access.{blank}
 use Rattle.chip_words.specs.Causes.{is_of_bor}
 use Rattle.chip_words.specs.Encap.{seal}
-use Rattle.chip_words.specs.Map.{is_fram, is_sram, keeps_without_power, loses_without_power, region_at}
-use Rattle.chip_words.specs.declared.regions.Region.{Region}
-use Rattle.chip_words.specs.declared.regions.Region.TheVariants.{Periph, Info, Descriptor, Sram, Main, Vacant}
-use Rattle.chip_words.specs.Memory.{loaded, memory_size}
+use Rattle.chip_words.specs.Map.{is_fram, is_sram}
+use Rattle.chip_words.specs.Memory.{loaded}
 use Rattle.bus_fabric.specs.Memory.{sram_filled}
 use Rattle.bus_fabric.proofs.MemoryBy.{slice_index-memory_by}
 use Rattle.elf_image.specs.Image.{Segment, byte_of}
@@ -23,7 +21,7 @@ use Rattle.power_schedule.specs.declared.powers.Power.{Power}
 use Rattle.power_schedule.specs.declared.powers.Power.TheVariants.{On, Cut, Off}
 use Rattle.stimulus.specs.Events.{on_tick}
 use Rattle.stimulus.specs.Stimulus.{Stimulus}
-use Rattle.access_laws.proofs.Courses.{chosen, unchosen}
+use Rattle.access_laws.proofs.Courses.{chosen}
 use Rattle.step_laws.proofs.Shapes.{either_holds}
 use Rattle.chip_core.specs.FirstState.{first_byte, first_memory, first_state}
 use Rattle.chip_core.specs.Phase.{is_up}
@@ -31,35 +29,14 @@ use Rattle.chip_core.specs.Run.{chip_after}
 use Rattle.chip_core.specs.State.{State}
 use Rattle.chip_core.specs.Tick.{after_bor, after_cause, after_events, after_puc, cut, finished, moments, power_of, powered, reset, stages, stages_from, stimulated, taken_cause, ticked, timed}
 use Rattle.release_log.specs.Facts.{FitsChip}
-use Rattle.release_log.specs.Lasting.{AreNoErases, HasImageSeal, IsSpared, SealsItself, structure_byte}
+use Rattle.release_log.specs.Lasting.{AreNoErases, HasImageSeal, IsSpared, SealComesBack, SealsItself, structure_byte}
+use Rattle.release_log.proofs.Begins.{run-IsSound}
 use Rattle.release_log.proofs.Held.{IsHeld, Rests, Stands, inside-fram, word-same}
 use Rattle.release_log.proofs.Holds.{events-IsWithin, powered-IsWithin, powered-tick, stage-IsHeld, timed-IsWithin, up-booted}
+use Rattle.release_log.proofs.Shorts.{filled-fram, fram_within}
 use Rattle.release_log.proofs.Spared.{image-GivesSeal}
 
 -- ---- FRAM outlasts a cut
-
-kept-unlost : (region : Region) → keeps_without_power region ≡ true → loses_without_power region ≡ false
-kept-unlost Info keeps = refl
-kept-unlost Main keeps = refl
-kept-unlost Periph keeps = refl
-kept-unlost Descriptor keeps = refl
-kept-unlost Sram keeps = cc
-kept-unlost Vacant keeps = refl
-
-fram-unlost : (at : ℕ) → is_fram at ≡ true → is_sram at ≡ false
-unfolding is_fram is_sram
-fram-unlost at fram = kept-unlost (region_at at) fram
-
-fram-within : (at : ℕ) → is_fram at ≡ true → at < memory_size
-unfolding memory_size
-fram-within at fram = grind (arith, nat_tests, fram-cases at)
-
-pub filled-byte :
-    (fill : ℕ) (memory : List ℕ) (at : ℕ) → is_fram at ≡ true →
-    slice_index (sram_filled fill memory) at ≡ slice_index memory at
-filled-byte fill memory at fram =
-    slice_index-memory_by (λ at. if is_sram at then fill else slice_index memory at) at (fram-within at fram)
-    ∙ unchosen (is_sram at) fill (slice_index memory at) (fram-unlost at fram)
 
 filled-word :
     (fill : ℕ) (memory : List ℕ) (at : ℕ) → is_fram at ≡ true → is_fram (at + 1) ≡ true →
@@ -67,9 +44,9 @@ filled-word :
 unfolding boot_word loaded
 filled-word fill memory at low high =
     ap (λ n. if is_fram at then n + 0x100 * slice_index (sram_filled fill memory) (at + 1) else blank Word)
-    (filled-byte fill memory at low)
+    (filled-fram fill memory at low)
     ∙ ap (λ n. if is_fram at then slice_index memory at + 0x100 * n else blank Word)
-    (filled-byte fill memory (at + 1) high)
+    (filled-fram fill memory (at + 1) high)
 
 filled-Rests :
     (image : List Segment) (fill : ℕ) (keep : Keep) (memory : List ℕ) → SealsItself image → Rests image keep memory →
@@ -86,7 +63,7 @@ filled-Rests image fill keep memory seals rests = record {
       (grind (arith, nat_tests, fram-cases 0xFF8B))
       ∙ rests.first e;
   bytes = λ k below.
-      filled-byte fill memory (structure_byte image k)
+      filled-fram fill memory (structure_byte image k)
       (inside-fram (image_seal image) (structure_byte image k) (seals k below))
       ∙ rests.bytes k below;
 }
@@ -107,7 +84,7 @@ reset-IsHeld image chip held = by_cause (taken_cause chip)
 cut-IsHeld : (image : List Segment) (chip : State) → SealsItself image → IsHeld image chip → IsHeld image (cut chip)
 unfolding cut
 cut-IsHeld image chip seals held = record {
-  rests = filled-Rests image (chip.bus).fill chip.keep (chip.bus).memory seals held.rests;
+  rests = filled-Rests image chip.bus.fill chip.keep chip.bus.memory seals held.rests;
   kept = held.kept;
   stands = refl;
 }
@@ -123,7 +100,7 @@ finished-IsHeld image Off chip seals held = held
 
 ticked-IsHeld :
     (image : List Segment) (bench : Stimulus) (chip : State) → SealsItself image →
-    FitsChip chip.boot chip.keep (chip.bus).memory → IsSpared image bench chip → IsHeld image chip →
+    FitsChip chip.boot chip.keep chip.bus.memory → IsSpared image bench chip → IsHeld image chip →
     IsHeld image (ticked bench chip)
 unfolding ticked moments stages stimulated
 ticked-IsHeld image bench chip seals fit spared held =
@@ -136,15 +113,16 @@ ticked-IsHeld image bench chip seals fit spared held =
     let ready = timed power (after_events events begins) in
     let turned =
     stage-IsHeld image power ready seals (timed-IsWithin image power (after_events events begins) told) spared.steps in
-    let ended = finished-IsHeld image power ((stages_from power ready).turn).chip seals turned in
+    let ended = finished-IsHeld image power (stages_from power ready).turn.chip seals turned in
     record { rests = ended.rests; kept = ended.kept; stands = ended.stands }
 
 -- ---- a run
 
 first-get :
-    (image : List Segment) (fill at : ℕ) → is_fram at ≡ true → slice_index (first_memory image fill) at ≡ byte_of image at
+    (image : List Segment) (fill at : ℕ) → is_fram at ≡ true →
+    slice_index (first_memory image fill) at ≡ byte_of image at
 first-get image fill at fram =
-    slice_index-memory_by (first_byte image fill) at (fram-within at fram)
+    slice_index-memory_by (first_byte image fill) at (fram_within at fram)
     ∙ chosen (is_fram at) (byte_of image at) (if is_sram at then fill else 0) fram
 
 first-word :
@@ -181,7 +159,7 @@ first-IsHeld image fill seals =
 abbrev FitsThrough : List Segment → Stimulus → ℕ → Type 0
 FitsThrough image bench n =
     (k : ℕ) → k < n →
-    (let chip = chip_after k bench (first_state image bench.fill) in FitsChip chip.boot chip.keep (chip.bus).memory)
+    (let chip = chip_after k bench (first_state image bench.fill) in FitsChip chip.boot chip.keep chip.bus.memory)
 
 run-IsHeld :
     (image : List Segment) (bench : Stimulus) (n : ℕ) → SealsItself image → FitsThrough image bench n →
@@ -193,12 +171,18 @@ run-IsHeld image bench (suc n) seals fits spared =
     (spared n (omega arith))
     (run-IsHeld image bench n seals (λ k below. fits k (omega arith)) (λ k below. spared k (omega arith)))
 
-held-HasImageSeal : (image : List Segment) (chip : State) → SealsItself image → IsHeld image chip → HasImageSeal image chip
+held-HasImageSeal :
+    (image : List Segment) (chip : State) → SealsItself image → IsHeld image chip → HasImageSeal image chip
 held-HasImageSeal image chip seals held = record { in_force = in_force; secret = held.kept }
   where
-    in_force : is_up chip ≡ true → seal ((chip.bus).units).encap ≡ image_seal image
+    in_force : is_up chip ≡ true → seal chip.bus.units.encap ≡ image_seal image
     in_force up =
         let booted = up-booted chip.powered chip.boot up in
-        let stands : Stands image None chip.keep ((chip.bus).units).encap =
-        subst (λ (boot : Option Place). Stands image boot chip.keep ((chip.bus).units).encap) booted held.stands in
+        let stands : Stands image None chip.keep chip.bus.units.encap =
+        subst (λ (boot : Option Place). Stands image boot chip.keep chip.bus.units.encap) booted held.stands in
         ap seal stands.1 ∙ sym (image-GivesSeal image seals).seal
+
+pub seal_comes_back : SealComesBack
+seal_comes_back image bench n seals spared =
+    held-HasImageSeal image (chip_after n bench (first_state image bench.fill)) seals
+    (run-IsHeld image bench n seals (λ k below. (run-IsSound image bench k).fit) spared)

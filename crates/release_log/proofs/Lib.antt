@@ -17,3 +17,4 @@ pub mod Spared
 pub mod Held
 pub mod Holds
 pub mod Lasts
+pub mod Unwritten

@@ -321,7 +321,7 @@ clocked-GoesOn None chip =
 -- ---- an entry
 
 -- the requests and the encapsulation are as they were
-record LeavesRequests (before after : Units) : Type 0 where
+pub record LeavesRequests (before after : Units) : Type 0 where
   pub requested : (after.sys).requested ≡ (before.sys).requested
   pub encap : after.encap ≡ before.encap
 
@@ -359,7 +359,7 @@ interrupts-Leave units =
       ),
     )
 
-units_entered-Leaves : (vector : ℕ) (units : Units) → LeavesRequests units (units_entered vector units)
+pub units_entered-Leaves : (vector : ℕ) (units : Units) → LeavesRequests units (units_entered vector units)
 unfolding units_entered
 units_entered-Leaves vector units = entered_by-Leaves interrupts vector units (interrupts-Leave units)
 

@@ -396,7 +396,7 @@ unwritten-TurnLeaves :
     TurnLeaves count chip [] turn
 unwritten-TurnLeaves count chip turn same keep = LeavesFirst-none count chip turn.chip same keep
 
-both_hold :
+pub both_hold :
     {A B : Type 0} (Holds : A → B → Type 0) (test : Bool) (a b : A) (c d : B) → Holds a c → Holds b d →
     Holds (if test then a else b) (if test then c else d)
 both_hold Holds true a b c d one other = one
@@ -440,7 +440,7 @@ free-LeavesFirst None count chip is =
     (instruction-LeavesFirst count chip is)
 
 -- the tests of the processor's turn, of which the first that passes decides
-by_tests :
+pub by_tests :
     {A B : Type 0} (Holds : A → B → Type 0) (busy halting halted dead : Bool) (none free : A) (a b c d : B) →
     Holds none a → Holds none b → Holds none c → Holds free d →
     Holds (if busy || halting || halted || dead then none else free)
@@ -559,7 +559,7 @@ powered-Begins count chip =
     (record { stored = refl; fill = refl; budget = refl; writes = refl })
     (record { stored = refl; fill = refl; budget = refl; writes = refl })
 
-fram_within : (at : ℕ) → is_fram at ≡ true → at < memory_size
+pub fram_within : (at : ℕ) → is_fram at ≡ true → at < memory_size
 unfolding is_fram region_at memory_size
 fram_within at fram = grind (arith, nat_tests)
 

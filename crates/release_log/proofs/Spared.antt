@@ -1,17 +1,15 @@
 -- With the image's seal in force, every step leaves the seal, and one from outside leaves the bytes of the structure.
-use Rattle.std.proofs.Common.{◌≡◌, ◌<◌, ◌-◌, ◌==◌, ◌||◌, ℕ, List, [], ◌∷◌, Bool, true, false, slice_index, arith, refl, ap, sym, ◌∙◌, if◌then◌else◌}
+use Rattle.std.proofs.Common.{◌≡◌, ◌<◌, ◌-◌, ◌||◌, ℕ, List, Bool, true, false, slice_index, arith, refl, ap, sym, ◌∙◌, if◌then◌else◌}
 use Rattle.std.specs.Prelude.{Option, Some, None, nat_lt}
 use Rattle.chip_words.specs.declared.accesses.Agent.{Agent}
 use Rattle.chip_words.specs.declared.accesses.Agent.TheVariants as by
 use Rattle.chip_words.specs.BusPart.{BusPart}
 use Rattle.chip_words.specs.Encap.{Encap, installed, seal}
-use Rattle.chip_words.specs.Interrupts.{Interrupt, entered_by, interrupts, units_entered}
 use Rattle.chip_words.specs.Public.{IsOutside, IsSettled}
 use Rattle.chip_words.specs.Registers.{PC}
 use Rattle.chip_words.specs.Script.{Script, run}
 use Rattle.chip_words.specs.Seals.{is_in, nowhere}
 use Rattle.chip_words.specs.Steps.{begun, step_ended}
-use Rattle.chip_words.specs.Units.{Units}
 use Rattle.bus_fabric.specs.Fabric.{part_entered}
 use Rattle.elf_image.specs.Image.{Segment, byte_of}
 use Rattle.boot_code.specs.Boot.{SAVED, borders_of, is_good}
@@ -30,6 +28,7 @@ use Rattle.chip_core.specs.Phase.{is_private}
 use Rattle.chip_core.specs.State.{State}
 use Rattle.chip_core.specs.Turns.{Turn, accepted_by, asked, entered, free_turn, instructed, is_halting, is_off, moved, processor_turn, reserved_cause, transfer_turn, with_dma, without_step}
 use Rattle.release_log.specs.Lasting.{HaveSameStructure, SealsItself, image_pointer, structure_byte, structure_size}
+use Rattle.release_log.proofs.Running.{units_entered-Leaves}
 use Rattle.release_log.proofs.Locked.{run-KeepsEncapsulation, step_ended-LeavesStored}
 
 -- ---- the seal of the image
@@ -73,7 +72,7 @@ image-GivesSeal image seals = by_signature (is_signed image) refl
 
 -- the image's seal is in force, and its addresses are those that stay secret
 pub record IsSealed (image : List Segment) (part : BusPart) : Type 0 where
-  pub encap : (part.units).encap ≡ image_encap image
+  pub encap : part.units.encap ≡ image_encap image
   pub kept : part.kept ≡ image_seal image
 
 pub sealed-settled : (image : List Segment) (part : BusPart) → SealsItself image → IsSealed image part → IsSettled part
@@ -89,7 +88,7 @@ pub sealed-locked : (image : List Segment) (part : BusPart) → SealsItself imag
 sealed-locked image part seals is =
     let first = structure_byte image 0 in
     let held : is_in part.kept first ≡ true = sealed-inside image part 0 seals is (omega arith) in
-    inside-locked (part.units).encap first
+    inside-locked part.units.encap first
     (ap (λ kept. is_in kept first) (sym (sealed-settled image part seals is)) ∙ held)
 
 -- what leaves the encapsulation leaves the seal
@@ -110,74 +109,30 @@ run-IsSealed image who step part seals is =
 
 pub run-structure :
     {A : Type 0} (image : List Segment) (who : Agent) (step : Script A) (part : BusPart) → SealsItself image →
-    IsSealed image part → IsOutside (part.units).encap who →
-    HaveSameStructure image part.memory ((run who step part).part).memory
+    IsSealed image part → IsOutside part.units.encap who →
+    HaveSameStructure image part.memory (run who step part).part.memory
 run-structure image who step part seals is outside k below =
     step-byte who step part (structure_byte image k) (sealed-settled image part seals is) outside
     (sealed-inside image part k seals is below)
 
-pub step_ended-IsSealed : (image : List Segment) (part : BusPart) → IsSealed image part → IsSealed image (step_ended part)
+pub step_ended-IsSealed :
+    (image : List Segment) (part : BusPart) → IsSealed image part → IsSealed image (step_ended part)
 step_ended-IsSealed image part is =
     keeps-IsSealed image part (step_ended part) (step_ended-LeavesStored part).encapsulation is
 
 -- memory behind the end of a step has the bytes of one before it
-step_ended-structure :
+pub step_ended-structure :
     (image : List Segment) (memory : List ℕ) (part : BusPart) → HaveSameStructure image memory part.memory →
     HaveSameStructure image memory (step_ended part).memory
 step_ended-structure image memory part same k below =
     ap (λ memory. slice_index memory (structure_byte image k)) (step_ended-LeavesStored part).memory ∙ same k below
 
--- ---- an entry leaves the registers of the encapsulation
-
--- each row of interrupts leaves them
-abbrev LeaveEncap : List Interrupt → Type 0
-LeaveEncap [] = Unit {0}
-LeaveEncap (row ∷ rows) = ((units : Units) → (row.entered units).encap ≡ units.encap) × LeaveEncap rows
-
-entered_by-encap :
-    (rows : List Interrupt) (vector : ℕ) (units : Units) → LeaveEncap rows →
-    (entered_by rows vector units).encap ≡ units.encap
-entered_by-encap [] vector units leave = refl
-entered_by-encap (row ∷ rows) vector units leave =
-    either_holds (λ (after : Units). after.encap ≡ units.encap) (vector == row.vector) (row.entered units)
-    (entered_by rows vector units) (leave.0 units) (entered_by-encap rows vector units leave.1)
-
-rows-LeaveEncap : LeaveEncap interrupts
-rows-LeaveEncap = (
-  λ u. refl,
-  (
-    λ u. refl,
-    (
-      λ u. refl,
-      (
-        λ u. refl,
-        (
-          λ u. refl,
-          (
-            λ u. refl,
-            (
-              λ u. refl,
-              (
-                λ u. refl,
-                (
-                  λ u. refl,
-                  (λ u. refl, (λ u. refl, (λ u. refl, (λ u. refl, tt)))),
-                ),
-              ),
-            ),
-          ),
-        ),
-      ),
-    ),
-  ),
-)
-
+-- an entry clears what asked for it
 part_entered-IsSealed :
     (image : List Segment) (vector : ℕ) (part : BusPart) → IsSealed image part →
     IsSealed image (part_entered vector part)
-unfolding units_entered
 part_entered-IsSealed image vector part is =
-    record { encap = entered_by-encap interrupts vector part.units rows-LeaveEncap ∙ is.encap; kept = is.kept }
+    record { encap = (units_entered-Leaves vector part.units).encap ∙ is.encap; kept = is.kept }
 
 -- ---- a chip whose boot is done
 
@@ -195,7 +150,7 @@ HasStructure image memory =
 
 pub record IsHolding (image : List Segment) (chip : State) : Type 0 where
   pub guarded : IsGuarded image chip
-  pub bytes : HasStructure image (chip.bus).memory
+  pub bytes : HasStructure image chip.bus.memory
 
 pub same-HasStructure :
     (image : List Segment) (before after : List ℕ) → HaveSameStructure image before after → HasStructure image before →
@@ -212,8 +167,9 @@ instructed-IsGuarded image chip seals is =
     let who = by.Cpu (slice_index chip.registers PC) in
     let ran = run who (instruction chip.registers) (begun chip.bus) in
     let start : IsSealed image (begun chip.bus) = record { encap = is.sealed.encap; kept = is.sealed.kept } in
-    let made : IsSealed image ran.part = run-IsSealed image who (instruction chip.registers) (begun chip.bus) seals start in
-    let asks : BusPart = asked (reserved_cause (ran.value).outcome) ran.part in
+    let made : IsSealed image ran.part =
+    run-IsSealed image who (instruction chip.registers) (begun chip.bus) seals start in
+    let asks : BusPart = asked (reserved_cause ran.value.outcome) ran.part in
     record {
       booted = is.booted;
       marked = is.marked;
@@ -228,7 +184,8 @@ unfolding entered
 entered-IsGuarded image vector chip seals is =
     let ran = run by.Entry (entry vector chip.registers) (begun chip.bus) in
     let start : IsSealed image (begun chip.bus) = record { encap = is.sealed.encap; kept = is.sealed.kept } in
-    let made : IsSealed image ran.part = run-IsSealed image by.Entry (entry vector chip.registers) (begun chip.bus) seals start in
+    let made : IsSealed image ran.part =
+    run-IsSealed image by.Entry (entry vector chip.registers) (begun chip.bus) seals start in
     record {
       booted = is.booted;
       marked = is.marked;
@@ -261,14 +218,14 @@ turn-IsGuarded image chip seals is =
 -- in public phase an instruction is none of the seal
 outside-instruction :
     (chip : State) → chip.powered ≡ true → chip.boot ≡ None → chip.halted ≡ false → is_private chip ≡ false →
-    IsOutside ((chip.bus).units).encap (by.Cpu (slice_index chip.registers PC))
+    IsOutside chip.bus.units.encap (by.Cpu (slice_index chip.registers PC))
 unfolding is_private
 outside-instruction chip lit booted runs public = grind (arith, lit, booted, runs, public)
 
 -- and so the turn leaves the structure
 pub turn-structure :
     (image : List Segment) (chip : State) → SealsItself image → IsGuarded image chip → chip.powered ≡ true →
-    is_private chip ≡ false → HaveSameStructure image (chip.bus).memory (((processor_turn chip).chip).bus).memory
+    is_private chip ≡ false → HaveSameStructure image chip.bus.memory (processor_turn chip).chip.bus.memory
 unfolding processor_turn instructed entered
 turn-structure image chip seals is lit public =
     either_holds Same (nat_lt 0 chip.busy) (without_step (record chip { busy = chip.busy - 1 })) _ (λ k below. refl)
@@ -276,7 +233,7 @@ turn-structure image chip seals is lit public =
     (λ k below. refl) (by_halt chip.halted refl))
   where
     Same : Turn → Type 0
-    Same turn = HaveSameStructure image (chip.bus).memory ((turn.chip).bus).memory
+    Same turn = HaveSameStructure image chip.bus.memory turn.chip.bus.memory
 
     start : IsSealed image (begun chip.bus)
     start = record { encap = is.sealed.encap; kept = is.sealed.kept }
@@ -285,14 +242,14 @@ turn-structure image chip seals is lit public =
     by_vector (Some vector) runs =
         let script = entry vector chip.registers in
         let ran = run by.Entry script (begun chip.bus) in
-        step_ended-structure image (chip.bus).memory (part_entered vector ran.part)
+        step_ended-structure image chip.bus.memory (part_entered vector ran.part)
         (run-structure image by.Entry script (begun chip.bus) seals start tt)
     by_vector None runs =
         let who = by.Cpu (slice_index chip.registers PC) in
         let script = instruction chip.registers in
         let ran = run who script (begun chip.bus) in
         either_holds Same (is_off chip) (without_step chip) (instructed chip) (λ k below. refl)
-        (step_ended-structure image (chip.bus).memory (asked (reserved_cause (ran.value).outcome) ran.part)
+        (step_ended-structure image chip.bus.memory (asked (reserved_cause ran.value.outcome) ran.part)
         (run-structure image who script (begun chip.bus) seals start
         (outside-instruction chip lit is.booted runs public)))
 
@@ -324,8 +281,8 @@ moved-IsHolding image (Some move) chip seals is =
         sealed = step_ended-IsSealed image ran.part (run-IsSealed image by.Dma script (begun chip.bus) seals start);
       };
       bytes =
-          same-HasStructure image (chip.bus).memory (step_ended ran.part).memory
-          (step_ended-structure image (chip.bus).memory ran.part
+          same-HasStructure image chip.bus.memory (step_ended ran.part).memory
+          (step_ended-structure image chip.bus.memory ran.part
           (run-structure image by.Dma script (begun chip.bus) seals start tt))
           is.bytes;
     }
@@ -336,7 +293,7 @@ pub transfer-IsHolding :
 unfolding transfer_turn
 transfer-IsHolding image channel chip seals is =
     let guarded = is.guarded in
-    moved-IsHolding image (move_at channel (((chip.bus).units).dma).channels) (with_dma (transferred channel) chip)
+    moved-IsHolding image (move_at channel chip.bus.units.dma.channels) (with_dma (transferred channel) chip)
     seals
     (record {
       guarded = record {

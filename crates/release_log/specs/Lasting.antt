@@ -1,12 +1,9 @@
--- The seal lasts. An image whose structure lies in the seal that it gives has this seal again behind every boot, whatever
--- cuts of power, resets, DMA, commands of the debugger and code from outside come: as long as the sealed code leaves its
--- structure alone, and no erase is accepted.
-use Rattle.std.specs.Prelude.{◌≡◌, ◌≢◌, ◌<◌, ◌+◌, ◌*◌, ◌||◌, nat_lt, ℕ, true, if◌then◌else◌, List, [], ◌∷◌, Option, Some, None, All, slice_index}
-use Rattle.chip_words.specs.declared.accesses.Agent.TheVariants as by
+-- The seal lasts. An image whose structure lies in the seal that it gives has this seal again behind every boot,
+-- whatever cuts of power, resets, DMA, commands of the debugger and code from outside come: as long as the sealed code
+-- leaves its structure alone, and no erase is accepted.
+use Rattle.std.specs.Prelude.{◌≡◌, ◌≢◌, ◌<◌, ◌+◌, ◌*◌, ℕ, true, List, [], ◌∷◌, All, slice_index}
 use Rattle.chip_words.specs.Encap.{seal}
-use Rattle.chip_words.specs.Registers.{PC}
 use Rattle.chip_words.specs.Seals.{is_in}
-use Rattle.chip_words.specs.Steps.{begun}
 use Rattle.elf_image.specs.Image.{Segment}
 use Rattle.boot_code.specs.Boot.{POINTER_AT}
 use Rattle.boot_code.specs.ImageSeal.{image_seal, image_word}
@@ -17,17 +14,16 @@ use Rattle.stimulus.specs.declared.events.EventAct.{EventAct}
 use Rattle.stimulus.specs.declared.events.EventAct.TheVariants.{Debug}
 use Rattle.stimulus.specs.Events.{on_tick}
 use Rattle.stimulus.specs.Stimulus.{Stimulus}
-use Rattle.cpux_extended.specs.Instruction.{instruction}
 use Rattle.chip_core.specs.declared.owners.Owner.TheVariants.{Processor}
 use Rattle.chip_core.specs.Debugger.{answer_to}
-use Rattle.chip_core.specs.Entry.{entry}
 use Rattle.chip_core.specs.FirstState.{first_state}
 use Rattle.chip_core.specs.Phase.{is_private, is_up}
 use Rattle.chip_core.specs.Run.{chip_after}
 use Rattle.chip_core.specs.State.{State}
 use Rattle.chip_core.specs.Tick.{Stages, after_event, moments, supplied}
-use Rattle.chip_core.specs.Turns.{accepted_by, is_halting, is_off, rested_by}
-use Rattle.release_log.specs.Writes.{Misses, StepWrite, writes_of}
+use Rattle.chip_core.specs.Turns.{rested_by}
+use Rattle.release_log.specs.Puts.{processor_writes}
+use Rattle.release_log.specs.Writes.{Misses}
 
 -- The image.
 
@@ -43,10 +39,11 @@ structure_size = 8
 abbrev pub structure_byte : List Segment → ℕ → ℕ
 structure_byte image k = 16 * image_pointer image + k
 
--- The image seals its own structure: each of the structure's bytes lies in the seal that the first boot gives. So there is
+-- The image seals its own structure: each byte of the structure lies in the seal that the first boot gives. So there is
 -- a signature, the check is good, and the structure sets MPUIPENA and MPUIPLOCK, since else that seal would be empty.
 abbrev pub SealsItself : List Segment → Type 0
-SealsItself image = (k : ℕ) → k < structure_size → is_in (image_seal image) (structure_byte image k) ≡ true
+SealsItself image =
+    (k : ℕ) → k < structure_size → is_in (image_seal image) (structure_byte image k) ≡ true
 
 -- What the sealed code keeps to.
 
@@ -64,28 +61,14 @@ HaveSameStructure image before after =
 -- an instruction or an entry in private phase leaves the structure as it was; it may write the same bytes again
 abbrev pub SparesStructure : List Segment → Stages → Type 0
 SparesStructure image stages =
-    IsPrivateTurn stages → HaveSameStructure image ((stages.ready).bus).memory (((stages.turn).chip).bus).memory
-
--- the writes of an entry, or of an instruction where the processor isn't off
-abbrev pub free_writes : Option ℕ → State → List StepWrite
-free_writes (Some vector) chip = writes_of by.Entry (entry vector chip.registers) (begun chip.bus)
-free_writes None chip =
-    if is_off chip then []
-    else writes_of (by.Cpu (slice_index chip.registers PC)) (instruction chip.registers) (begun chip.bus)
-
--- the writes of the processor's turn, in their order: none where it is busy, comes to a halt, is halted, or is dead
-abbrev pub turn_writes : State → List StepWrite
-turn_writes chip =
-    if nat_lt 0 chip.busy then []
-    else if is_halting chip then []
-    else if chip.halted || chip.dead then []
-    else free_writes (accepted_by chip) chip
+    IsPrivateTurn stages →
+    HaveSameStructure image stages.ready.bus.memory stages.turn.chip.bus.memory
 
 -- no allowed write of an instruction or an entry in private phase is to a byte of the structure
 abbrev pub MissesStructure : List Segment → Stages → Type 0
 MissesStructure image stages =
     IsPrivateTurn stages → (k : ℕ) → k < structure_size →
-    All (Misses (structure_byte image k)) (turn_writes (rested_by Processor stages.ready))
+    All (Misses (structure_byte image k)) (processor_writes (rested_by Processor stages.ready))
 
 -- Erases.
 
@@ -96,7 +79,8 @@ IsNoErase act chip = act ≡ Debug Erase → answer_to Erase chip ≢ Accepted
 -- and so is none of these events, each of which comes to the chip that those before it left
 abbrev pub AreNoErases : List Event → State → Type 0
 AreNoErases [] chip = Unit {0}
-AreNoErases (event ∷ events) chip = IsNoErase event.act chip × AreNoErases events (after_event event.act chip)
+AreNoErases (event ∷ events) chip =
+    IsNoErase event.act chip × AreNoErases events (after_event event.act chip)
 
 -- nor any of the chip's next tick
 abbrev pub NoErasesNext : Stimulus → State → Type 0
@@ -104,18 +88,18 @@ NoErasesNext bench chip = AreNoErases (on_tick chip.tick bench.events) (supplied
 
 -- The laws.
 
--- the image's seal is in force wherever power is on and the boot is done, and its addresses stay secret at all times, so
+-- the image's seal is in force where power is on and the boot is done, and its addresses stay secret at all times, so
 -- also without power and while a boot runs
 pub record HasImageSeal (image : List Segment) (chip : State) : Type 0 where
-  pub in_force : is_up chip ≡ true → seal ((chip.bus).units).encap ≡ image_seal image
-  pub secret : (chip.bus).kept ≡ image_seal image
+  pub in_force : is_up chip ≡ true → seal chip.bus.units.encap ≡ image_seal image
+  pub secret : chip.bus.kept ≡ image_seal image
 
 -- in the chip's next tick the sealed code leaves the structure as it was, and no erase is accepted
 pub record IsSpared (image : List Segment) (bench : Stimulus) (chip : State) : Type 0 where
   pub steps : SparesStructure image (moments bench chip).stages
   pub erases : NoErasesNext bench chip
 
--- after as many ticks as there were such ones, every chip of the run has the image's seal
+-- behind such ticks, as many as have been, every chip of a run has the image's seal
 abbrev pub SealComesBack : Type 0
 SealComesBack =
     (image : List Segment) (bench : Stimulus) (n : ℕ) → SealsItself image →

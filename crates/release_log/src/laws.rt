@@ -1,5 +1,6 @@
 ghost use Rattle.release_log.specs.Boots.{BootInstalls, BootKeepsKept};
 ghost use Rattle.release_log.specs.Erasing.{EraseIsAlone};
+ghost use Rattle.release_log.specs.Lasting.{SealComesBack, SealLasts};
 ghost use Rattle.release_log.specs.Locked.{LockOutlastsSteps};
 ghost use Rattle.release_log.specs.Puts.{CutHoldsFirst};
 ghost use Rattle.release_log.specs.Registers.{EntriesLeaveRegisters, InstructionsLeaveRegisters};
@@ -82,6 +83,8 @@ pub fn boot_installs()
 #[tactic(auto, using(crate::proofs::Stands::boot_keeps_kept))]
 pub fn boot_keeps_kept()
     ensures { BootKeepsKept }
+{}
+
 /// A tick whose power is cut leaves in FRAM, mark and pointer exactly the first of its writes, as many as the cut says,
 /// each whole, as far as it was allowed when it was made: those of the debugger, and then those of the boot, DMA or the
 /// processor. SRAM holds the fill.
@@ -95,4 +98,17 @@ pub fn cut_holds_first()
 /// is answered that the boot isn't done.
 pub fn erase_is_alone()
     ensures { EraseIsAlone }
+{}
+
+/// An image whose structure lies in the seal that it gives has this seal behind every boot, whatever cuts of power,
+/// resets, DMA, commands of the debugger and code from outside come, as long as each step in private phase leaves the
+/// structure as it was, and no erase is accepted. At all times the seal's addresses stay secret.
+pub fn seal_comes_back()
+    ensures { SealComesBack }
+{}
+
+/// So it is where the code in private phase never writes its structure: no allowed write of its steps is to one of the
+/// eight bytes.
+pub fn seal_lasts()
+    ensures { SealLasts }
 {}
