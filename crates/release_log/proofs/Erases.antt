@@ -32,7 +32,7 @@ use Rattle.chip_core.specs.Phase.{is_up}
 use Rattle.chip_core.specs.State.{State}
 use Rattle.chip_core.specs.Tick.{after_bor, after_cause, after_event, after_events, after_puc, begun_by, clocked, cut, moments, owner_in, power_of, powered, powered_on, reset, stages, stimulated, supplied, taken_cause, ticked, timed}
 use Rattle.chip_core.specs.Turns.{boot_turn, owned, owner_by, owner_of, with_dma}
-use Rattle.release_log.specs.Erasing.{AreHeldOff, EraseIsAlone, IsAlone, IsBootAtMost, IsHeldOff, chip_at}
+use Rattle.release_log.specs.Erasing.{AreHeldOff, EraseIsAlone, IsAlone, IsBlankAt, IsBootAtMost, IsHeldOff, chip_at}
 use Rattle.release_log.specs.Facts.{FitsChip}
 use Rattle.release_log.proofs.Begins.{run-IsSound}
 use Rattle.release_log.proofs.Kept.{booting-unup, command-unup, ticked-by, ticked_by}
@@ -77,7 +77,8 @@ stays-Erases before after stays is = record {
 -- ---- power
 
 -- where power comes on, the boot starts
-start-Erases : (before after : State) → after.boot ≡ Some Start → after.keep ≡ before.keep → Erases before → Erases after
+start-Erases :
+    (before after : State) → after.boot ≡ Some Start → after.keep ≡ before.keep → Erases before → Erases after
 start-Erases before after boot keep is =
     let marked : after.keep.mark ≡ ERASING = ap (λ (keep : Keep). keep.mark) keep ∙ is.marked in
     record { place = Start; boot = boot; marked = marked; fit = grind (arith, nat_tests) }
@@ -90,7 +91,8 @@ on-Erases power chip is =
 
 powered-Erases : (power : Power) (chip : State) → Erases chip → Erases (powered power chip)
 unfolding powered
-powered-Erases Off chip is = stays-Erases chip (begun_by Off chip) (record { boot = refl; keep = refl; memory = refl }) is
+powered-Erases Off chip is =
+    stays-Erases chip (begun_by Off chip) (record { boot = refl; keep = refl; memory = refl }) is
 powered-Erases power chip is = on-Erases power chip is
 
 -- ---- the stimulus
@@ -252,7 +254,7 @@ run-Erases image bench tick marked = fit-Erases (chip_at image bench tick) (run-
 
 abbrev IsUndone : List Segment → Stimulus → ℕ → ℕ → Type 0
 IsUndone image bench first last =
-    (tick : ℕ) → first ≤ tick → tick ≤ last → IsBlank (chip_at image bench tick).bus.memory → ⊥
+    (tick : ℕ) → first ≤ tick → tick ≤ last → IsBlankAt image bench tick → ⊥
 
 still-marked :
     (image : List Segment) (bench : Stimulus) (first more : ℕ) → (chip_at image bench first).keep.mark ≡ ERASING →

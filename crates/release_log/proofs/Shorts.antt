@@ -56,7 +56,7 @@ use Rattle.chip_core.specs.Entry.{entry}
 use Rattle.chip_core.specs.State.{State}
 use Rattle.chip_core.specs.Tick.{after_event, after_events, begun_by, clocked, cut, owner_in, power_of, powered, stages, stimulated, ticked, timed}
 use Rattle.chip_core.specs.Turns.{Turn, accepted_by, asked, boot_turn, entered, free_turn, instructed, is_halting, is_off, moved, owned, processor_turn, rested_by, reserved_cause, transfer_turn, turn_of, with_dma, without_step}
-use Rattle.release_log.specs.Puts.{CutHoldsFirst, HoldsWithoutPower, IsCutShort, OfBus, OfMark, OfPointer, Stored, TickWrite, act_writes, after_stages, asked_writes, behind_write, behind_writes, boot_writes, command_script, command_writes, erase_writes, event_writes, events_writes, instruction_writes, move_writes, of_bus, owner_writes, processor_writes, stages_writes, step_writes, stimulus_writes, stored_in, supplied_writes, tick_writes, transfer_writes, turn_writes}
+use Rattle.release_log.specs.Puts.{CutHoldsFirst, HoldsWithoutPower, IsCutShort, OfBus, OfMark, OfPointer, Stored, TickWrite, act_writes, after_stages, asked_writes, behind_write, behind_writes, boot_writes, command_script, command_writes, erase_writes, event_writes, events_writes, instruction_writes, move_writes, of_bus, owner_writes, processor_writes, stages_writes, step_writes, stimulus_writes, stored_behind, stored_in, supplied_writes, tick_writes, transfer_writes, turn_writes}
 use Rattle.release_log.specs.Writes.{END_OF_COUNT, StepWrite, with_write, with_writes, writes_of}
 use Rattle.release_log.proofs.Firsts.{next-left, over-absent, over-present, run-HoldsFirst, take-append}
 use Rattle.release_log.proofs.Locked.{step_ended-LeavesStored}
@@ -596,7 +596,7 @@ cut-HoldsWithoutPower stored fill chip e same = record {
 
 stages-IsCutShort :
     (bench : Stimulus) (chip : State) (count : ℕ) → count < END_OF_COUNT →
-    IsCutShort (tick_writes (Cut count) bench chip) count chip (after_stages (Cut count) bench chip)
+    IsCutShort bench count chip (after_stages (Cut count) bench chip)
 unfolding stages
 stages-IsCutShort bench chip count below =
     let start = powered (Cut count) chip in
@@ -604,7 +604,7 @@ stages-IsCutShort bench chip count below =
     let writes = tick_writes (Cut count) bench chip in
     let leaves = tick-LeavesFirst bench count start (record { budget = begins.budget; below = below }) in
     let all : count - start.bus.writes ≡ count = omega (arith, begins.writes) in
-    cut-HoldsWithoutPower (behind_writes (stored_in chip) (take count writes)) chip.bus.fill
+    cut-HoldsWithoutPower (stored_behind bench count chip) chip.bus.fill
     (turned count (stimulated bench start))
     (leaves.stored
     ∙ ap (λ n. behind_writes (stored_in start) (take n writes)) all
@@ -613,12 +613,11 @@ stages-IsCutShort bench chip count below =
 
 tick-IsCutShort :
     (bench : Stimulus) (chip : State) (count : ℕ) → count < END_OF_COUNT → power_of bench chip ≡ Cut count →
-    IsCutShort (tick_writes (Cut count) bench chip) count chip (ticked bench chip)
+    IsCutShort bench count chip (ticked bench chip)
 tick-IsCutShort bench chip count below is =
-    let writes = tick_writes (Cut count) bench chip in
     let short = stages-IsCutShort bench chip count below in
-    subst (IsCutShort writes count chip) (sym (ticked-by bench chip))
-    (subst (λ power. IsCutShort writes count chip (ticked_by power bench chip)) (sym is)
+    subst (IsCutShort bench count chip) (sym (ticked-by bench chip))
+    (subst (λ power. IsCutShort bench count chip (ticked_by power bench chip)) (sym is)
     (record { fram = short.fram; keep = short.keep; sram = short.sram }))
 
 pub cut_holds_first : CutHoldsFirst

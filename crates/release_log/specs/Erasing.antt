@@ -28,7 +28,8 @@ IsHeldOff (Debug command) chip = answer_to command chip ≡ Booting
 -- events one after another
 abbrev pub AreHeldOff : List Event → State → Type 0
 AreHeldOff [] chip = Unit {0}
-AreHeldOff (event ∷ events) chip = IsHeldOff event.act chip × AreHeldOff events (after_event event.act chip)
+AreHeldOff (event ∷ events) chip =
+    IsHeldOff event.act chip × AreHeldOff events (after_event event.act chip)
 
 -- Who acts.
 
@@ -50,11 +51,15 @@ pub record IsAlone (bench : Stimulus) (chip : State) : Type 0 where
 abbrev pub chip_at : List Segment → Stimulus → ℕ → State
 chip_at image bench tick = chip_after tick bench (first_state image bench.fill)
 
+-- all of its FRAM is wiped
+abbrev pub IsBlankAt : List Segment → Stimulus → ℕ → Type 0
+IsBlankAt image bench tick = IsBlank (chip_at image bench tick).bus.memory
+
 -- an erase began before the tick of one number and, whatever cuts came, isn't done before that of another
 pub record IsErasing (image : List Segment) (bench : Stimulus) (first last : ℕ) : Type 0 where
   pub in_order : first ≤ last
   pub began : (chip_at image bench first).keep.mark ≡ ERASING
-  pub undone : (tick : ℕ) → first ≤ tick → tick ≤ last → IsBlank (chip_at image bench tick).bus.memory → ⊥
+  pub undone : (tick : ℕ) → first ≤ tick → tick ≤ last → IsBlankAt image bench tick → ⊥
 
 -- Of every run: the boot is alone in each tick of an erase. What is left of the tick in which the debugger asked for the
 -- erase is no part of it.

@@ -76,7 +76,8 @@ event_writes (Debug command) chip = command_writes command chip
 -- events one after another
 abbrev pub events_writes : List Event → State → List TickWrite
 events_writes [] chip = []
-events_writes (event ∷ events) chip = event_writes event.act chip ++ events_writes events (after_event event.act chip)
+events_writes (event ∷ events) chip =
+    event_writes event.act chip ++ events_writes events (after_event event.act chip)
 
 -- Those of the boot.
 
@@ -116,11 +117,13 @@ has_no_step chip = nat_lt 0 chip.busy || is_halting chip || chip.halted || chip.
 -- the instruction at PC
 abbrev pub instruction_writes : State → List StepWrite
 instruction_writes chip =
-    writes_of (agent.Cpu (slice_index chip.registers PC)) (instruction chip.registers) (begun chip.bus)
+    let who = agent.Cpu (slice_index chip.registers PC) in
+    writes_of who (instruction chip.registers) (begun chip.bus)
 
 -- the entry of the interrupt that is accepted, or the instruction, unless the processor is off
 abbrev pub step_writes : Option ℕ → State → List StepWrite
-step_writes (Some vector) chip = writes_of agent.Entry (entry vector chip.registers) (begun chip.bus)
+step_writes (Some vector) chip =
+    writes_of agent.Entry (entry vector chip.registers) (begun chip.bus)
 step_writes None chip = if is_off chip then [] else instruction_writes chip
 
 abbrev pub processor_writes : State → List StepWrite
@@ -149,7 +152,8 @@ stages_writes power chip = owner_writes (owner_in power (timed power chip)) (tim
 
 -- all writes of a tick in their order, from the chip with the power of the tick
 abbrev pub supplied_writes : Power → Stimulus → State → List TickWrite
-supplied_writes power bench chip = stimulus_writes bench chip ++ stages_writes power (stimulated bench chip)
+supplied_writes power bench chip =
+    stimulus_writes bench chip ++ stages_writes power (stimulated bench chip)
 
 -- and from the chip as the tick finds it
 abbrev pub tick_writes : Power → Stimulus → State → List TickWrite
@@ -175,16 +179,30 @@ behind_write stored (OfPointer ptr) = record stored { keep = record (stored.keep
 abbrev pub behind_writes : Stored → List TickWrite → Stored
 behind_writes stored writes = fold behind_write stored writes
 
+-- two memories have the same bytes in FRAM
+abbrev pub AreSameInFram : List ℕ → List ℕ → Type 0
+AreSameInFram one other =
+    (at : ℕ) → is_fram at ≡ true → slice_index one at ≡ slice_index other at
+
+-- each byte of SRAM is this one
+abbrev pub IsFilledWith : ℕ → List ℕ → Type 0
+IsFilledWith fill memory = (at : ℕ) → is_sram at ≡ true → slice_index memory at ≡ fill
+
 -- a chip holds in FRAM and in the two words what is stored, and the fill in SRAM
 pub record HoldsWithoutPower (stored : Stored) (fill : ℕ) (chip : State) : Type 0 where
-  pub fram : (at : ℕ) → is_fram at ≡ true → slice_index chip.bus.memory at ≡ slice_index stored.memory at
+  pub fram : AreSameInFram chip.bus.memory stored.memory
   pub keep : chip.keep ≡ stored.keep
-  pub sram : (at : ℕ) → is_sram at ≡ true → slice_index chip.bus.memory at ≡ fill
+  pub sram : IsFilledWith fill chip.bus.memory
 
--- the first so many of these writes, and no other, are done on what a chip stored, and then power went
-abbrev pub IsCutShort : List TickWrite → ℕ → State → State → Type 0
-IsCutShort writes count before after =
-    HoldsWithoutPower (behind_writes (stored_in before) (take count writes)) before.bus.fill after
+-- what a chip stores behind the first so many writes of a tick that is cut behind them
+abbrev pub stored_behind : Stimulus → ℕ → State → Stored
+stored_behind bench count chip =
+    behind_writes (stored_in chip) (take count (tick_writes (Cut count) bench chip))
+
+-- the first so many writes of the tick, and no other, were done, and then power went
+abbrev pub IsCutShort : Stimulus → ℕ → State → State → Type 0
+IsCutShort bench count before after =
+    HoldsWithoutPower (stored_behind bench count before) before.bus.fill after
 
 -- the chip behind the last stage of a tick, by the power of the tick
 abbrev pub after_stages : Power → Stimulus → State → State
@@ -195,7 +213,7 @@ after_stages power bench chip = (stages power (stimulated bench (powered power c
 pub record CutHoldsFirst : Type 0 where
   pub stages :
       (bench : Stimulus) (chip : State) (count : ℕ) → count < END_OF_COUNT →
-      IsCutShort (tick_writes (Cut count) bench chip) count chip (after_stages (Cut count) bench chip)
+      IsCutShort bench count chip (after_stages (Cut count) bench chip)
   pub tick :
-      (bench : Stimulus) (chip : State) (count : ℕ) → count < END_OF_COUNT → power_of bench chip ≡ Cut count →
-      IsCutShort (tick_writes (Cut count) bench chip) count chip (ticked bench chip)
+      (bench : Stimulus) (chip : State) (count : ℕ) → count < END_OF_COUNT →
+      power_of bench chip ≡ Cut count → IsCutShort bench count chip (ticked bench chip)
