@@ -3,15 +3,13 @@
 import tomllib
 from dataclasses import dataclass, field
 
-from built import Built
 from debug import (
     Command, Dump, Go, Halt, ReadRegister, ReadWord, Reset, SetRegister, WriteWord,
 )
 from ports import Pin
 
 VERSION = 1
-END_WITHOUT_TIMERS = 32_768
-END_WITH_TIMERS = 10_000_000
+LONGEST_END = 10_000_000
 EVENTS = 10_000
 EVENTS_IN_A_TICK = 8
 ROOT_KEYS = {"version", "end", "fill", "event"}
@@ -89,7 +87,7 @@ def is_integer(value, least: int, most: int) -> bool:
     return type(value) is int and least <= value <= most
 
 
-def bench_of_text(file: bytes, built: Built) -> Bench:
+def bench_of_text(file: bytes) -> Bench:
     """The bench of a file, or Refused."""
     try:
         root = tomllib.loads(file.decode("utf-8"))
@@ -97,7 +95,7 @@ def bench_of_text(file: bytes, built: Built) -> Bench:
         raise Refused("NotToml") from error
     if not is_integer(root.get("version"), VERSION, VERSION):
         raise Refused("Field(Version)")
-    if not is_integer(root.get("end"), 1, longest_end(built)):
+    if not is_integer(root.get("end"), 1, LONGEST_END):
         raise Refused("Field(End)")
     if not is_integer(root.get("fill", 0), 0, 255):
         raise Refused("Field(Fill)")
@@ -110,15 +108,11 @@ def bench_of_text(file: bytes, built: Built) -> Bench:
         raise Refused("TooMany")
     bench = Bench(root["end"], root.get("fill", 0))
     for table in tables:
-        add_event(bench, table, built)
+        add_event(bench, table)
     return bench
 
 
-def longest_end(built: Built) -> int:
-    return END_WITH_TIMERS if built >= Built.TIMERS else END_WITHOUT_TIMERS
-
-
-def add_event(bench: Bench, table, built: Built) -> None:
+def add_event(bench: Bench, table) -> None:
     if not isinstance(table, dict):
         raise Refused("Event")
     keys = dict(table)
@@ -130,7 +124,7 @@ def add_event(bench: Bench, table, built: Built) -> None:
     if sum(event.tick == tick for event in earlier[-EVENTS_IN_A_TICK:]) == EVENTS_IN_A_TICK:
         raise Refused("Event")
     act = pin_level(keys)
-    if act is None and built >= Built.ENCAPSULATION:
+    if act is None:
         act = command(keys)
     if act is None:
         raise Refused("Event")

@@ -6,7 +6,6 @@ Two sizes of data: "b" is a byte and "w" a word.
 from collections.abc import Callable
 from enum import Enum
 
-from built import Built
 from encapsulation import Encapsulation
 from memory import (
     ADDRESS_MASK, BYTE_OF_NO_STORE, FRAM_REGIONS, VACANT_WORD, Memory, Region, region_of,
@@ -15,8 +14,6 @@ from protection import Place, Protection
 from registers_of_units import HIGH_HALF, LOW_HALF, WORD
 from right import Right
 from system import Cause
-
-ENCAPSULATION_REGISTERS = range(0x05AA, 0x05B0)
 
 
 class Agent(Enum):
@@ -32,21 +29,17 @@ JUDGED_BY_SEGMENTS = (Agent.PROCESSOR, Agent.DMA)
 
 
 class Bus:
-    """Before protection is built every address that no unit has is a STOP."""
-
     def __init__(
         self, memory: Memory, units, request: Callable[[Cause], None],
-        encapsulation: Encapsulation, protection: Protection, built: Built,
+        encapsulation: Encapsulation, protection: Protection,
     ):
         self.memory = memory
         self.request = request
         self.encapsulation = encapsulation
         self.protection = protection
-        self.built = built
         self.agent = Agent.PROCESSOR
         self.instruction: int | None = None  # where that of the processor begins
         self.accesses_to_fram = 0  # of this step
-        self.stopped = False  # a register was asked for that isn't built
         self.unit_of_address = {}
         for unit in units:
             for address in unit.addresses:
@@ -102,20 +95,9 @@ class Bus:
             return False
         return self.protection.refuses(at, right, self.agent.value)
 
-    def unit_at(self, address: int):
-        unit = self.unit_of_address.get(address)
-        if unit is None and self.is_unbuilt(address):
-            self.stopped = True
-        return unit
-
-    def is_unbuilt(self, address: int) -> bool:
-        if address in ENCAPSULATION_REGISTERS:
-            return self.built < Built.ENCAPSULATION
-        return self.built < Built.PROTECTION
-
     def read_register(self, at: int, size: str) -> int:
         address = at & ~1
-        unit = self.unit_at(address)
+        unit = self.unit_of_address.get(address)
         if unit is None:
             return 0
         word = unit.read(address)
@@ -125,7 +107,7 @@ class Bus:
 
     def write_register(self, at: int, size: str, value: int) -> None:
         address = at & ~1
-        unit = self.unit_at(address)
+        unit = self.unit_of_address.get(address)
         if unit is None:
             return
         if size == "w":

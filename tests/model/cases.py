@@ -14,8 +14,7 @@ import protection_actions
 import protection_situations
 import timer_actions
 import timer_situations
-from bench import PINS, Bench, Event, PinLevel, bench_text, longest_end
-from built import Built
+from bench import PINS, LONGEST_END, Bench, Event, PinLevel, bench_text
 from image import HEADER, Segment, image_bytes
 from layout import Program
 from programs import (
@@ -23,7 +22,6 @@ from programs import (
 )
 
 LONG_END = 40_000
-LONG_END_WITHOUT_TIMERS = 32_768
 LONG_RUN = 9000
 TIMES_FOR_PROTECTION = 3  # what is protected has to be set up first, and waits take their time
 SHARE_OF_REFUSED = 0.05
@@ -165,23 +163,21 @@ DEBUG = Style(
     interrupts=0.4, longest_chapter=12, loops=0.4, rescued=0.2, has_vault=True,
 )
 
-STYLES = {"instructions": INSTRUCTIONS, "system": SYSTEM, "interrupts": INTERRUPTS, "loops": LOOPS}
-STYLES_WITH_TIMERS = {
+STYLES_WITHOUT_PROTECTION = {
+    "instructions": INSTRUCTIONS, "system": SYSTEM, "interrupts": INTERRUPTS, "loops": LOOPS,
     "timers": TIMERS, "timers and interrupts": TIMERS_WITH_INTERRUPTS,
     "dma": DMA, "dma and interrupts": DMA_WITH_INTERRUPTS,
 }
-STYLES_WITH_PROTECTION = {
+LONG_STYLES = {
     "waits": WAITING, "protection": PROTECTION,
     "protection and interrupts": PROTECTION_WITH_INTERRUPTS,
     "protection and dma": PROTECTION_WITH_DMA,
-}
-STYLES_WITH_ENCAPSULATION = {
     "encapsulation": ENCAPSULATION,
     "encapsulation and interrupts": ENCAPSULATION_WITH_INTERRUPTS,
     "encapsulation and dma": ENCAPSULATION_WITH_DMA,
     "debug": DEBUG,
 }
-LONG_STYLES = {*STYLES_WITH_PROTECTION, *STYLES_WITH_ENCAPSULATION}
+STYLES = STYLES_WITHOUT_PROTECTION | LONG_STYLES
 WEIGHT_OF_STYLE = {"instructions": 4, "system": 3, "interrupts": 3, "loops": 1, "timers": 5,
                    "timers and interrupts": 5, "dma": 15, "dma and interrupts": 11,
                    "waits": 7, "protection": 22, "protection and interrupts": 17,
@@ -208,50 +204,35 @@ class Case:
         return None if self.bench is None else bench_text(self.bench).encode()
 
 
-def styles_of(built: Built) -> dict[str, Style]:
-    styles = dict(STYLES)
-    if built >= Built.TIMERS:
-        styles |= STYLES_WITH_TIMERS
-    if built >= Built.PROTECTION:
-        styles |= STYLES_WITH_PROTECTION
-    if built >= Built.ENCAPSULATION:
-        styles |= STYLES_WITH_ENCAPSULATION
-    return styles
-
-
-def random_case(seed: int, index: int, built: Built) -> Case:
-    """The case of this index. It depends on nothing but the three values."""
-    rng = random.Random(f"{seed}/{index}/{built.name}")
-    styles = styles_of(built)
-    kinds = list(styles)
-    kind, = rng.choices(kinds, [WEIGHT_OF_STYLE[kind] for kind in kinds])
-    program = random_program(rng, styles[kind], built)
+def random_case(seed: int, index: int) -> Case:
+    """The case of this index. It depends on nothing but the two values."""
+    rng = random.Random(f"{seed}/{index}")
+    kind, = rng.choices(list(STYLES), [WEIGHT_OF_STYLE[kind] for kind in STYLES])
+    program = random_program(rng, STYLES[kind])
     segments = program.segments()
     if rng.random() < SHARE_OF_DEAD_ENDS:
-        return dead_end(rng, program, built)
+        return dead_end(rng, program)
     if rng.random() < 0.1:
         overlap(rng, segments)
-    case = Case(kind, segments, random_bench(rng, built))
+    case = Case(kind, segments, random_bench(rng))
     if kind in LONG_STYLES and case.bench is not None and case.bench.end < LONG_RUN:
         case.bench.end *= TIMES_FOR_PROTECTION
-    if built >= Built.ENCAPSULATION and case.bench is not None:
-        if rng.random() < SHARE_OF_DEBUGGED.get(kind, 0.3):
-            add_sessions(rng, case.bench, program)
+    if case.bench is not None and rng.random() < SHARE_OF_DEBUGGED.get(kind, 0.3):
+        add_sessions(rng, case.bench, program)
     if rng.random() < SHARE_OF_REFUSED:
-        spoil_files(rng, case, built)
-    elif built >= Built.ENCAPSULATION and rng.random() < SHARE_OF_SINGLE_COMMANDS:
+        spoil_files(rng, case)
+    elif rng.random() < SHARE_OF_SINGLE_COMMANDS:
         case.kind = "single commands"
         case.refused_bench = bench_of_a_command(rng).encode()
     return case
 
 
-def dead_end(rng: random.Random, program: Program, built: Built) -> Case:
+def dead_end(rng: random.Random, program: Program) -> Case:
     """No reset vector, in a run that is long enough for the watchdog to ask for a reset."""
     segments = program.segments()
     segments.append(Segment(0xFFFE, bytes((0xFF, 0xFF))))
-    end = long_end(built)
-    bench = Bench(end, 0, random_events(rng, end))
-    if built >= Built.ENCAPSULATION and rng.random() < 0.7:
+    bench = Bench(LONG_END, 0, random_events(rng, LONG_END))
+    if rng.random() < 0.7:
         add_sessions(rng, bench, program)
     return Case("dead end", segments, bench)
 
@@ -269,19 +250,15 @@ def overlap(rng: random.Random, segments: list[Segment]) -> None:
 
 # Benches
 
-def long_end(built: Built) -> int:
-    return LONG_END if built >= Built.TIMERS else LONG_END_WITHOUT_TIMERS
-
-
-def random_bench(rng: random.Random, built: Built) -> Bench | None:
+def random_bench(rng: random.Random) -> Bench | None:
     if rng.random() < 0.03:
         return None
     fill = rng.choice((0, 0, 0xFF, 0x03, 0x13, rng.randrange(256)))
-    end = random_end(rng, built)
+    end = random_end(rng)
     return Bench(end, fill, random_events(rng, end))
 
 
-def random_end(rng: random.Random, built: Built) -> int:
+def random_end(rng: random.Random) -> int:
     chance = rng.random()
     if chance < 0.03:
         return rng.randrange(1, 40)
@@ -291,7 +268,7 @@ def random_end(rng: random.Random, built: Built) -> int:
         return rng.randrange(1200, 3500)
     if chance < 0.99:
         return rng.randrange(3500, 9000)
-    return long_end(built)
+    return LONG_END
 
 
 def random_events(rng: random.Random, end: int) -> list[Event]:
@@ -325,13 +302,13 @@ def add_sessions(rng: random.Random, bench: Bench, program: Program) -> None:
 
 # Files that are refused, most of them
 
-def spoil_files(rng: random.Random, case: Case, built: Built) -> None:
+def spoil_files(rng: random.Random, case: Case) -> None:
     case.kind = "spoiled files"
     if rng.random() < 0.5:
         case.refused_image = spoiled_image(rng, case.image_file())
     else:
         file = case.bench_file() or b"version = 1\nend = 9\n"
-        case.refused_bench = spoiled_bench(rng, file, built)
+        case.refused_bench = spoiled_bench(rng, file)
 
 
 def spoiled_image(rng: random.Random, file: bytes) -> bytes:
@@ -351,12 +328,11 @@ def spoiled_image(rng: random.Random, file: bytes) -> bytes:
     return bytes(changed)
 
 
-def spoiled_bench(rng: random.Random, file: bytes, built: Built) -> bytes:
+def spoiled_bench(rng: random.Random, file: bytes) -> bytes:
     text = file.decode()
-    if built >= Built.ENCAPSULATION and rng.random() < 0.6:
+    if rng.random() < 0.6:
         return bench_of_a_command(rng).encode()
     least = "version = 1\nend = 20\nfill = 5\n"
-    longest = longest_end(built)
     event = '\n[[event]]\ntick = 0\npin = "P1.0"\nlevel = 1\n'
     one = least + event
     return rng.choice((
@@ -366,7 +342,7 @@ def spoiled_bench(rng: random.Random, file: bytes, built: Built) -> bytes:
         one.replace("P1", rng.choice(("P0", "p1", "P5", "P2", "P1 "))),
         one.replace("level = 1", rng.choice(("level = true", "level = true", "level = 2", ""))),
         one.replace("tick = ", rng.choice(("tick = -", "tick = +", "tock = ", "tick = 9"))),
-        f"version = 1\nend = {longest + 1}\n",
+        f"version = 1\nend = {LONGEST_END + 1}\n",
         least + event * rng.choice((7, 8, 9)),
         least + event * 9,
         least + event * 3 + "extra = 1\n",

@@ -6,7 +6,6 @@ from enum import IntEnum
 import interrupts
 import trace
 from bench import Event, PinLevel
-from built import Built
 from bus import Agent, Bus
 from clocks import edges_of
 from debug import Command, DebugPort
@@ -21,7 +20,7 @@ from ports import Ports
 from protection import Protection
 from registers import Registers
 from system import CAUSES_OF_BOR, Cause, System
-from timers import built_timers
+from timers import three_timers
 from watchdog import Watchdog
 
 SIGNATURE_ADDRESS = 0xFF88
@@ -40,7 +39,7 @@ class BootStep(IntEnum):
 
 
 class Chip:
-    def __init__(self, store: bytearray, fill: int, statistics: Counter, built: Built):
+    def __init__(self, store: bytearray, fill: int, statistics: Counter):
         self.statistics = statistics
         self.number = 0
         self.stopped = False
@@ -55,21 +54,15 @@ class Chip:
         self.ports = Ports(lambda: self.system.locked)
         self.watchdog = Watchdog(self.requests.add, self.system.set_watchdog_flag)
         self.dma = Dma(statistics)
-        self.timers = ()
-        units = [self.system, self.ports, self.watchdog]
-        if built >= Built.TIMERS:
-            self.timers = built_timers(statistics, self.dma.trigger_of_timer)
-            units += [*self.timers, self.dma]
+        self.timers = three_timers(statistics, self.dma.trigger_of_timer)
         self.fram = Fram(self.requests.add)
         latch = Latch(self.requests.add, Cause.PROTECTION_PASSWORD)
         self.encapsulation = Encapsulation(latch)
         self.protection = Protection(self.requests.add, latch, self.encapsulation, statistics)
-        if built >= Built.PROTECTION:
-            units += [self.fram, self.protection]  # SYSSNIV is no register of `system` then
-        if built >= Built.ENCAPSULATION:
-            units.append(self.encapsulation)
+        units = (self.system, self.ports, self.watchdog, *self.timers, self.dma, self.fram,
+                 self.protection, self.encapsulation)
         self.bus = Bus(
-            self.memory, units, self.requests.add, self.encapsulation, self.protection, built
+            self.memory, units, self.requests.add, self.encapsulation, self.protection
         )
         self.debug = DebugPort(
             self.registers, self.bus, self.memory, self.requests.add, self.is_booted, statistics
@@ -93,8 +86,7 @@ class Chip:
         self.take_edges()
         self.owner_acts()
         self.protection.end_step()
-        if self.bus.stopped or self.stopped:
-            self.stopped = True
+        if self.stopped:
             return self.lines[:lines_of_events]
         self.take_reset()
         self.compare_levels()

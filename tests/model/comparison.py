@@ -5,7 +5,6 @@ from collections import Counter
 from dataclasses import dataclass
 from pathlib import Path
 
-from built import Built
 from cases import Case, random_case
 from run import Answer, run
 
@@ -22,10 +21,10 @@ class Tried:
     differs: bool
 
 
-def answer_of_model(case: Case, built: Built, statistics: Counter | None = None) -> Answer:
+def answer_of_model(case: Case, statistics: Counter | None = None) -> Answer:
     if statistics is None:
         statistics = Counter()
-    return run(case.image_file(), case.bench_file(), statistics, built)
+    return run(case.image_file(), case.bench_file(), statistics)
 
 
 def write_files(case: Case, folder: Path, name: str) -> list[Path]:
@@ -53,10 +52,10 @@ def answer_of_program(program: Path, case: Case, folder: Path) -> Answer:
     return Answer(output, error, finished.returncode)
 
 
-def try_case(program: Path, seed: int, index: int, built: Built, folder: Path) -> Tried:
-    case = random_case(seed, index, built)
+def try_case(program: Path, seed: int, index: int, folder: Path) -> Tried:
+    case = random_case(seed, index)
     statistics = Counter()
-    expected = answer_of_model(case, built, statistics)
+    expected = answer_of_model(case, statistics)
     statistics[f"exit {expected.status}"] += 1
     differs = answer_of_program(program, case, folder) != expected
     return Tried(index, case.kind, statistics, differs)

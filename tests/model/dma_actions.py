@@ -94,7 +94,7 @@ def random_size(rng: random.Random) -> int:
 
 
 def random_step(rng: random.Random, address: int) -> int:
-    """An INCR. Within the peripherals it leaves the address most often: STOP isn't far there."""
+    """An INCR. Within the peripherals it leaves the address most often."""
     if address < 0x1000 and rng.random() < 0.85:
         return rng.randrange(2)
     return rng.choice((UPWARD, UPWARD, UPWARD, DOWNWARD, DOWNWARD, 0, 1))
@@ -298,7 +298,7 @@ def write_registers(rng: random.Random, code: Code) -> None:
 
 
 def value_for(rng: random.Random, code: Code, address: int) -> int:
-    """A value that lets transfers meet what is built, most often."""
+    """A value that lets transfers meet memory and ports, most often."""
     if address < CHANNELS[0]:
         return random_trigger(rng, code) * rng.choice((1, 0x0100, 0x0101))
     distance = address & 0x0F

@@ -317,7 +317,7 @@ def follow_a_script(rng: random.Random, code: Code) -> None:
 
 
 def cross_a_border(rng: random.Random, code: Code) -> None:
-    """Addresses that step over 64 KB, over the end of a region, and seldom through 0 to a STOP."""
+    """Addresses that step over 64 KB, over the end of a region, and seldom through 0."""
     channel = favourite_channel(rng, code)
     by_request(rng, code, channel)
     border = rng.choice((0x10000,) * 4 + (0x14000, 0x4400, 0x1C00, 0x2400, 0x1800, 0x1A00, 0x1B00))

@@ -10,23 +10,22 @@ import sys
 from collections import Counter
 from pathlib import Path
 
-from built import Built
 from run import Answer, run
 
 
-def difference(image: bytes, bench: bytes | None, known: tuple, built: Built) -> str:
+def difference(image: bytes, bench: bytes | None, known: tuple) -> str:
     """How the answer differs, as a word, or nothing."""
     try:
-        answer = run(image, bench, Counter(), built)
+        answer = run(image, bench, Counter())
     except Exception as error:  # a model with a mistake may do anything
         return type(error).__name__
     return "" if answer == Answer(*known) else "differs"
 
 
 def main() -> None:
-    built, cases = pickle.loads(Path(sys.argv[1]).read_bytes())
+    cases = pickle.loads(Path(sys.argv[1]).read_bytes())
     for index, (image, bench, known) in enumerate(cases):
-        how = difference(image, bench, known, built)
+        how = difference(image, bench, known)
         if how:
             print(index, how)
             return

@@ -22,7 +22,6 @@ import mistakes_of_instructions
 import mistakes_of_protection
 import mistakes_of_timers
 import mistakes_of_units
-from built import Built
 from cases import random_case
 from comparison import answer_of_model
 from mistake import Mistake
@@ -37,33 +36,25 @@ class Found:
     case: str  # what find_difference.py printed: an index and how it differs, or "none"
 
 
-def all_mistakes(built: Built) -> list[Mistake]:
-    mistakes = [*mistakes_of_instructions.MISTAKES, *mistakes_of_units.MISTAKES]
-    if built < Built.ENCAPSULATION:
-        mistakes += mistakes_of_units.WHILE_UNBUILT
-    if built >= Built.TIMERS:
-        mistakes += [*mistakes_of_timers.MISTAKES, *mistakes_of_dma.MISTAKES]
-    if built >= Built.PROTECTION:
-        mistakes += mistakes_of_protection.MISTAKES
-    if built is Built.PROTECTION:
-        mistakes += mistakes_of_protection.WHILE_UNBUILT
-    if built >= Built.ENCAPSULATION:
-        mistakes += [*mistakes_of_encapsulation.MISTAKES, *mistakes_of_debug.MISTAKES]
-    return mistakes
+ALL_MISTAKES = (
+    *mistakes_of_instructions.MISTAKES, *mistakes_of_units.MISTAKES,
+    *mistakes_of_timers.MISTAKES, *mistakes_of_dma.MISTAKES, *mistakes_of_protection.MISTAKES,
+    *mistakes_of_encapsulation.MISTAKES, *mistakes_of_debug.MISTAKES,
+)
 
 
-def known_case(seed: int, built: Built, index: int) -> tuple:
+def known_case(seed: int, index: int) -> tuple:
     """The files of a case, and the answer of the model without a mistake."""
-    case = random_case(seed, index, built)
-    answer = answer_of_model(case, built)
+    case = random_case(seed, index)
+    answer = answer_of_model(case)
     known = (answer.output, answer.error, answer.status)
     return case.image_file(), case.bench_file(), known
 
 
-def write_cases(path: Path, count: int, seed: int, built: Built, jobs: int) -> None:
+def write_cases(path: Path, count: int, seed: int, jobs: int) -> None:
     with multiprocessing.Pool(jobs) as pool:
-        cases = pool.map(partial(known_case, seed, built), range(count), chunksize=4)
-    path.write_bytes(pickle.dumps((built, cases)))
+        cases = pool.map(partial(known_case, seed), range(count), chunksize=4)
+    path.write_bytes(pickle.dumps(cases))
 
 
 def find(mistake: Mistake, cases: Path) -> Found:
@@ -76,12 +67,12 @@ def find(mistake: Mistake, cases: Path) -> Found:
     return Found(mistake, finished.stdout.strip())
 
 
-def try_all(count: int, seed: int, built: Built, jobs: int, only: str) -> int:
+def try_all(count: int, seed: int, jobs: int, only: str) -> int:
     """Prints a line for each mistake, and answers 1 where one wasn't found that can be."""
-    mistakes = [mistake for mistake in all_mistakes(built) if only in mistake.name]
+    mistakes = [mistake for mistake in ALL_MISTAKES if only in mistake.name]
     with tempfile.TemporaryDirectory() as folder:
         cases = Path(folder) / "cases"
-        write_cases(cases, count, seed, built, jobs)
+        write_cases(cases, count, seed, jobs)
         with ThreadPoolExecutor(jobs) as pool:
             results = list(pool.map(lambda mistake: find(mistake, cases), mistakes))
     for result in results:

@@ -26,7 +26,7 @@ REFUSED = NOTE + "            return True\n"
 WHO_NOTES = "            if self.agent is not Agent.DEBUG:\n"
 FLAGS = "            self.flags |= 1 << place\n"
 RESET_OF_PLACE = "            return self.encapsulation.resets()\n"
-OWN_UNIT = "            units.append(self.encapsulation)\n"
+BUS = "        self.bus = Bus(\n"
 
 
 def cleared_by_a_puc(name: str, bits: str, register: str) -> Mistake:
@@ -58,10 +58,10 @@ REGISTERS = (
     Mistake("ip's registers take whole words from bytes", "encapsulation.py",
             "            word = merged(self.registers[address], value, mask)\n",
             "            word = value\n"),
-    Mistake("ip's registers are kept by mpu's LOCK", "chip.py", OWN_UNIT,
-            OWN_UNIT + "            write = self.encapsulation.write\n"
-            "            self.encapsulation.write = lambda *written: (\n"
-            "                None if self.protection.locked() else write(*written))\n"),
+    Mistake("ip's registers are kept by mpu's LOCK", "chip.py", BUS,
+            "        write = self.encapsulation.write\n"
+            "        self.encapsulation.write = lambda *written: (\n"
+            "            None if self.protection.locked() else write(*written))\n" + BUS),
 )
 
 LOCK = (

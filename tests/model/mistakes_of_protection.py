@@ -413,20 +413,6 @@ NMI = (
             "            self.nmi_is_requested = False\n        if cause in CAUSES_OF_BOR:\n"),
 )
 
-ADDRESSES = (
-    Mistake("fram and mpu leave other addresses unbuilt", "bus.py",
-            "return self.built < Built.PROTECTION", "return True"),
-)
-
-# What is otherwise once encapsulation is built.
-WHILE_UNBUILT = (
-    Mistake("mpu's encapsulation registers read 0", "bus.py",
-            "range(0x05AA, 0x05B0)", "range(0x05AA, 0x05AA)"),
-    Mistake("mpu has a STOP at 05B0h too", "bus.py",
-            "range(0x05AA, 0x05B0)", "range(0x05AA, 0x05B2)"),
-)
-
 MISTAKES = (
     *WAITS, *FRAM_REGISTERS, *LATCHES, *REGISTERS, *SEGMENTS, *RIGHTS, *VIOLATIONS, *NUMBER, *NMI,
-    *ADDRESSES,
 )

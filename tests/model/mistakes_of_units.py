@@ -42,11 +42,6 @@ MEMORY = (
             "        if region_of(at) is Region.PERIPHERALS:\n            self.write_register",
             "        if region_of(at) is Region.PERIPHERALS:\n            self.write_register"),
 )
-UNBUILT = (
-    Mistake("a register that isn't built reads 0", "bus.py",
-            "            self.stopped = True\n", "            pass\n"),
-)
-
 SYSTEM = (
     Mistake("a read of SYSRSTIV leaves it", "system.py",
             "            self.reset_cause = 0\n            return cause",
@@ -315,22 +310,8 @@ TICKS = (
     Mistake("RST stands behind PIN", "chip.py",
             "        self.take_reset()\n        self.compare_levels()\n",
             "        self.compare_levels()\n        self.take_reset()\n"),
-    Mistake("the lines of a STOP's tick are shown", "chip.py",
-            "            self.stopped = True\n            return self.lines[:lines_of_events]",
-            "            self.stopped = True\n            self.take_reset()\n"
-            "            self.compare_levels()\n            return self.lines"),
     Mistake("pins are written from bit 0 on", "trace.py",
             "for bit in reversed(range(8))", "for bit in range(8)"),
 )
 
 MISTAKES = MEMORY + SYSTEM + WATCHDOG + PORTS + INTERRUPTS + TICKS
-
-# What is otherwise once the debug port and every register are built.
-WHILE_UNBUILT = (
-    Mistake("a register that isn't built reads 0", "bus.py",
-            "            self.stopped = True\n", "            pass\n"),
-    Mistake("a dead processor stays dead", "chip.py",
-            "self.dead = vector == NO_VECTOR", "self.dead |= vector == NO_VECTOR",
-            "nothing writes memory while the processor is dead, so the next reset finds the same "
-            "vector FFFFh"),
-)

@@ -15,7 +15,6 @@ import encapsulation_routines
 import protection_routines
 import timer_actions
 from assembler import Operand, absolute, immediate, indexed, register, two
-from built import Built
 from image import Segment
 from instruction_words import InstructionMaker, Knobs
 from layout import SLOT_SIZE, Code, Program
@@ -57,16 +56,14 @@ class Style:
     has_vault: bool = False  # code that is to be encapsulated
 
 
-def random_program(rng: random.Random, style: Style, built: Built) -> Program:
+def random_program(rng: random.Random, style: Style) -> Program:
     program = Program(rng)
-    if built >= Built.PROTECTION:
-        program.reserve_bridge(rng)
+    program.reserve_bridge(rng)
     if style.has_vault:
         program.reserve_vault(rng)
     start = program.low_code()
-    if built >= Built.PROTECTION:
-        program.places.start = start.address
-        write_protection(rng, program, start)
+    program.places.start = start.address
+    write_protection(rng, program, start)
     if style.has_vault:
         encapsulation_routines.write_helper(rng, program)
         encapsulation_routines.write_vault(rng, program)
@@ -74,10 +71,10 @@ def random_program(rng: random.Random, style: Style, built: Built) -> Program:
         encapsulation_routines.write_closing_words(rng, program, start)
     chapters = [program.code_anywhere(rng) for _ in range(rng.choice((1, 2, 4, style.chapters)))]
     program.single_words[RESET_VECTOR] = start.address | (rng.random() < 0.1)
-    write_start(rng, program, start, chapters, style, built)
+    write_start(rng, program, start, chapters, style)
     for chapter in chapters:
         write_chapter(rng, chapter, start, style)
-    write_routines(rng, program, start, style, built)
+    write_routines(rng, program, start, style)
     spoil(rng, program)
     return program
 
@@ -113,8 +110,7 @@ def random_action(rng: random.Random, style: Style) -> Action:
 # The start
 
 def write_start(
-    rng: random.Random, program: Program, start: Code, chapters: list[Code], style: Style,
-    built: Built,
+    rng: random.Random, program: Program, start: Code, chapters: list[Code], style: Style
 ) -> None:
     if style.rescued and rng.random() < style.rescued:
         start.put(assembler.store(actions.WDTCTL, rng.choice(WATCHDOG_THAT_RESETS)))
@@ -125,34 +121,30 @@ def write_start(
     if rng.random() < 0.8:
         start.put(assembler.copy(actions.SYSRSTIV, rng.choice(actions.PORT_OUTPUTS)))
     if rng.random() < 0.4:
-        show_what_a_reset_left(rng, start, built)
-    stack = random_stack(rng, built)
+        show_what_a_reset_left(rng, start)
+    stack = random_stack(rng)
     start.put(assembler.set_register(assembler.SP, stack))
     if rng.random() < style.interrupts:
         enable_something(rng, start)
     write_choice(rng, program, start, chapters)
 
 
-def show_what_a_reset_left(rng: random.Random, start: Code, built: Built) -> None:
+def show_what_a_reset_left(rng: random.Random, start: Code) -> None:
     for number in rng.sample((0, *range(16)), rng.randrange(3)):
         actions.show_register(rng, start, number)
     for _ in range(rng.randrange(6)):
         port = rng.choice((0x0200, 0x0220)) + rng.choice(actions.PORT_DISTANCES)
         actions.show(rng, start, rng.choice((port, rng.choice(actions.SYSTEM_REGISTERS))))
-        if built >= Built.TIMERS:
-            base = rng.choice(tuple(timer_actions.COMPARES_OF_BASE))
-            actions.show(rng, start, timer_actions.random_register(rng, base))
-            actions.show(rng, start, dma_actions.own_register(rng))
+        base = rng.choice(tuple(timer_actions.COMPARES_OF_BASE))
+        actions.show(rng, start, timer_actions.random_register(rng, base))
+        actions.show(rng, start, dma_actions.own_register(rng))
 
 
-def random_stack(rng: random.Random, built: Built) -> int:
+def random_stack(rng: random.Random) -> int:
     if rng.random() < 0.9:
         return rng.choice((0x2400, 0x2400, 0x2300, 0x2201, 0x12F00))
-    unusual = UNUSUAL_STACKS
-    unusual += STACKS_ON_TIMERS + STACKS_ON_DMA if built >= Built.TIMERS else ()
-    unusual += STACKS_ON_PROTECTION if built >= Built.PROTECTION else ()
-    unusual += STACKS_ON_ENCAPSULATION if built >= Built.ENCAPSULATION else ()
-    return rng.choice(unusual)
+    return rng.choice((*UNUSUAL_STACKS, *STACKS_ON_TIMERS, *STACKS_ON_DMA, *STACKS_ON_PROTECTION,
+                       *STACKS_ON_ENCAPSULATION))
 
 
 def enable_something(rng: random.Random, code: Code) -> None:
@@ -246,10 +238,7 @@ def meet_interval(rng: random.Random, code: Code) -> None:
 
 
 def stack_on_flags(rng: random.Random, code: Code) -> None:
-    """Over SFRIFG1, or over IFG of two ports, with IV of the second port right behind it.
-
-    SP of SFRIFG1 + 4 would be a STOP without protection, since 0104h isn't built then.
-    """
+    """Over SFRIFG1, or over IFG of two ports, with IV of the second port right behind it."""
     flags = rng.choice((actions.SFRIFG1, 0x021C, 0x021C, 0x023C))
     if flags == actions.SFRIFG1:
         put_stack_on(rng, code, flags, flags + 2)
@@ -279,12 +268,8 @@ def put_stack_on(rng: random.Random, code: Code, flags: int, stack: int) -> None
 
 # Routines of the interrupts
 
-def write_routines(
-    rng: random.Random, program: Program, start: Code, style: Style, built: Built
-) -> None:
-    vectors = [WATCHDOG_VECTOR, *PORT_OF_VECTOR]
-    if built >= Built.TIMERS:
-        vectors += [*FIRST_LINES, *OTHER_LINES, DMA_VECTOR]
+def write_routines(rng: random.Random, program: Program, start: Code, style: Style) -> None:
+    vectors = (WATCHDOG_VECTOR, *PORT_OF_VECTOR, *FIRST_LINES, *OTHER_LINES, DMA_VECTOR)
     routines: list[Code] = []
     for vector in vectors:
         if routines and rng.random() < 0.05:
@@ -356,7 +341,7 @@ WEIGHTS = {"shift": 10, "several_registers": 7, "extended_one_operand": 14, "add
 SRAM_RANGES = ((0x1C20, 0x1CFF), (0x1C20, 0x23FF))
 DATA_RANGES = (*SRAM_RANGES * 5, (0x1900, 0x197F), (0x4400, 0x13FFF), (0x4400, 0x13FFF),
                (0x13FF0, 0x1400F), (0x10000, 0x1000F), (0x0214, 0x022A))
-# An index on an address here may wrap to 0, which without protection is a STOP.
+# An index on an address here may wrap to 0.
 BORDER_RANGE = (0x0FFF0, 0x0FFFF)
 
 
@@ -369,7 +354,7 @@ def instruction_maker(rng: random.Random, code: Code) -> InstructionMaker:
 
 
 def random_instructions(rng: random.Random, code: Code) -> None:
-    """A few, with most registers made addresses of the data: at others soon comes a STOP."""
+    """A few, with most registers made addresses of the data."""
     if rng.random() < 0.7:
         for number in range(4, 16):
             point_register(rng, code, number)

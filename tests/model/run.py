@@ -7,7 +7,6 @@ import bench as benches
 import image as images
 import trace
 from bench import Bench
-from built import Built
 from chip import Chip
 
 LONGEST_IMAGE = 4_194_304
@@ -26,7 +25,7 @@ BAD_IMAGE = Answer("", "capsule: bad image\n", 6)
 BAD_BENCH = Answer("", "capsule: bad bench\n", 7)
 
 
-def run(image: bytes, bench: bytes | None, statistics: Counter, built: Built) -> Answer:
+def run(image: bytes, bench: bytes | None, statistics: Counter) -> Answer:
     """The answer for the files of an image and of a bench, or of no bench."""
     if len(image) > LONGEST_IMAGE:
         return TOO_LONG
@@ -35,18 +34,18 @@ def run(image: bytes, bench: bytes | None, statistics: Counter, built: Built) ->
     except images.Refused:
         return BAD_IMAGE
     if bench is None:
-        return Answer(whole_trace(store, Bench(), statistics, built), "", 0)
+        return Answer(whole_trace(store, Bench(), statistics), "", 0)
     if len(bench) > LONGEST_BENCH:
         return TOO_LONG
     try:
-        right_bench = benches.bench_of_text(bench, built)
+        right_bench = benches.bench_of_text(bench)
     except benches.Refused:
         return BAD_BENCH
-    return Answer(whole_trace(store, right_bench, statistics, built), "", 0)
+    return Answer(whole_trace(store, right_bench, statistics), "", 0)
 
 
-def whole_trace(store: bytearray, bench: Bench, statistics: Counter, built: Built) -> str:
-    chip = Chip(store, bench.fill, statistics, built)
+def whole_trace(store: bytearray, bench: Bench, statistics: Counter) -> str:
+    chip = Chip(store, bench.fill, statistics)
     events = bench.events_of_ticks()
     lines: list[str] = []
     for tick in range(bench.end):

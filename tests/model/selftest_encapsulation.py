@@ -8,7 +8,6 @@ import unittest
 from collections import Counter
 
 from bench import Bench, Event, bench_text
-from built import Built
 from debug import (
     Dump, Go, Halt, ReadRegister, ReadWord, Reset, SetRegister, WriteWord,
 )
@@ -44,9 +43,7 @@ class Example(unittest.TestCase):
         if RESET_VECTOR not in parts:
             segments.append(segment(RESET_VECTOR, "4400"))
         bench = Bench(end, 0, [Event(tick, act) for tick, act in events])
-        answer = run(
-            image_bytes(segments), bench_text(bench).encode(), Counter(), Built.ENCAPSULATION
-        )
+        answer = run(image_bytes(segments), bench_text(bench).encode(), Counter())
         in_order = sorted([*BOOT, *lines], key=lambda line: int(line.split()[0]))
         expected = [*in_order, f"{end} END"]
         self.assertEqual((answer.output.splitlines(), answer.status), (expected, 0))
@@ -256,7 +253,7 @@ class Runs(Example):
         segments = [segment(START, STAY), segment(0xFF88, "AAAA"), segment(RESET_VECTOR, "4400")]
         bench = Bench(9, 0, [Event(1, ReadWord(0)), Event(1, Go())])
         answer = run(
-            image_bytes(segments), bench_text(bench).encode(), Counter(), Built.ENCAPSULATION
+            image_bytes(segments), bench_text(bench).encode(), Counter()
         )
         lines = ["0 ON", "1 DBG read 00000 booting", "1 DBG go booting", "1 STOP"]
         self.assertEqual(answer.output.splitlines(), lines)

@@ -47,7 +47,7 @@ LOCK_BIT = 0x0001
 
 
 class System:
-    addresses = (*PLAIN_REGISTERS, PMMCTL0, PM5CTL0, SYSSNIV, SYSRSTIV)
+    addresses = (*PLAIN_REGISTERS, PMMCTL0, PM5CTL0, SYSRSTIV)
 
     def __init__(self, request: Callable[[Cause], None]):
         self.request = request
@@ -68,8 +68,6 @@ class System:
             return READ_PASSWORD
         if address == PM5CTL0:
             return LOCK_BIT if self.locked else 0
-        if address == SYSSNIV:
-            return 0  # where the memory protection unit isn't built
         if address == SYSRSTIV:
             cause = self.reset_cause
             self.reset_cause = 0

@@ -209,7 +209,7 @@ class Timer:
         self.statistics[f"timer {self.name}: {what}"] += 1
 
 
-def built_timers(statistics: Counter, trigger: Trigger) -> tuple[Timer, Timer, Timer]:
+def three_timers(statistics: Counter, trigger: Trigger) -> tuple[Timer, Timer, Timer]:
     """TA0, TA1 and TB0, in the order in which they take the edges of a tick."""
     return (
         Timer("TA0", 0x0340, 3, statistics, trigger),
