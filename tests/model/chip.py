@@ -1,11 +1,11 @@
 """The chip and its tick: power, stimulus, timers, bus owner, reset (MACHINE.md, A tick)."""
 
 from collections import Counter
-from enum import IntEnum
 
 import interrupts
 import trace
 from bench import Event, PinLevel
+from boot import Boot, HiddenWords, Place
 from bus import Agent, Bus
 from clocks import edges_of
 from debug import Command, DebugPort
@@ -23,33 +23,21 @@ from system import CAUSES_OF_BOR, Cause, System
 from timers import three_timers
 from watchdog import Watchdog
 
-SIGNATURE_ADDRESS = 0xFF88
-SIGNATURE = 0xAAAA
 RESET_VECTOR = 0xFFFE
 NO_VECTOR = 0xFFFF
-
-
-class BootStep(IntEnum):
-    """The boot step that comes next."""
-
-    START = 0
-    SIGNATURE = 1
-    DONE = 2
-    NONE = 3
 
 
 class Chip:
     def __init__(self, store: bytearray, fill: int, statistics: Counter):
         self.statistics = statistics
         self.number = 0
-        self.stopped = False
         self.lines: list[str] = []
         self.requests: set[Cause] = set()
         self.registers = Registers()
         self.busy = 0
         self.dead = False
-        self.boot_step = BootStep.START
         self.memory = Memory(store, fill)
+        self.boot = Boot(self.memory, HiddenWords(), statistics)
         self.system = System(self.requests.add)
         self.ports = Ports(lambda: self.system.locked)
         self.watchdog = Watchdog(self.requests.add, self.system.set_watchdog_flag)
@@ -75,19 +63,13 @@ class Chip:
         self.levels = self.ports.levels()
 
     def tick(self, events: list[Event]) -> list[str]:
-        """One tick, and its lines. Where it can't be done, `stopped` says so.
-
-        Of such a tick only the lines stand that came before what can't be done.
-        """
+        """One tick, and its lines."""
         self.lines = []
         self.power()
         self.stimulus(events)
-        lines_of_events = len(self.lines)
         self.take_edges()
         self.owner_acts()
         self.protection.end_step()
-        if self.stopped:
-            return self.lines[:lines_of_events]
         self.take_reset()
         self.compare_levels()
         self.number += 1
@@ -111,7 +93,7 @@ class Chip:
             self.lines.append(trace.debug(self.number, command.text(), answer))
 
     def is_booted(self) -> bool:
-        return self.boot_step is BootStep.NONE
+        return self.boot.is_done()
 
     def take_edges(self) -> None:
         if not self.is_booted():
@@ -134,13 +116,17 @@ class Chip:
         self.dma.lower_rests()
 
     def boot_acts(self) -> None:
-        if self.boot_step is BootStep.SIGNATURE:
-            if self.memory.read_word(SIGNATURE_ADDRESS) == SIGNATURE:
-                self.stopped = True
-        elif self.boot_step is BootStep.DONE:
-            self.lines.append(trace.boot(self.number))
-            self.load_reset_vector()
-        self.boot_step = BootStep(self.boot_step + 1)
+        if self.boot.place is Place.DONE:
+            self.end_boot()
+            return
+        if self.boot.erases_first_word():
+            self.lines.append(trace.erase(self.number))
+        self.boot.step()
+
+    def end_boot(self) -> None:
+        self.encapsulation.install(self.boot.end())
+        self.lines.append(trace.boot(self.number, self.encapsulation))
+        self.load_reset_vector()
 
     def load_reset_vector(self) -> None:
         vector = self.memory.read_word(RESET_VECTOR)
@@ -235,7 +221,7 @@ class Chip:
         for register in range(16):
             self.registers.set(register, 0)
         self.dead = False
-        self.boot_step = BootStep.START
+        self.boot.restart()
         self.reset_units(cause)
 
     def plain_reset(self, cause: Cause) -> None:

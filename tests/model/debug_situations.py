@@ -305,7 +305,7 @@ def reset_and_ask(rng: random.Random, targets: Targets) -> list[Timed]:
     if rng.random() < 0.4:
         commands.append((0, rng.choice((Halt(), any_command(rng, targets)))))
     if rng.random() < 0.02:
-        commands.append((0, WriteWord(SIGNATURE_ADDRESS, SIGNATURE)))  # the boot stops the run
+        commands.append((0, WriteWord(SIGNATURE_ADDRESS, SIGNATURE)))  # the boot erases most often
     reset = Reset() if rng.random() < 0.7 else WriteWord(actions.PMMCTL0, 0xA504)
     commands.append((0, reset))
     if rng.random() < 0.5:

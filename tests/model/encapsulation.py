@@ -3,6 +3,8 @@
 The registers stand behind the latch of the memory protection unit (MACHINE.md).
 """
 
+from dataclasses import dataclass
+
 from latch import Latch
 from memory import Region, region_of
 from registers_of_units import merged
@@ -21,6 +23,15 @@ KEPT_BITS = {MPUIPC0: RESET_BIT | ENABLE_BIT | LOCK_BIT, MPUIPSEGB2: 0xFFC0, MPU
 BYTES_OF_A_BORDER = 16  # the register times this is the address
 NEVER_INSIDE = range(0xFF80, 0x10000)  # signatures and vectors
 BYTES_WITHOUT_DATA = 8  # instructions so near to the first border read and write nothing inside
+
+
+@dataclass(frozen=True)
+class Borders:
+    """What a boot installs: MPUIPC0, MPUIPSEGB2 and MPUIPSEGB1."""
+
+    control: int = 0
+    second: int = 0
+    first: int = 0
 
 
 class Encapsulation:
@@ -43,6 +54,14 @@ class Encapsulation:
         if self.latch.is_open and not self.locked():
             word = merged(self.registers[address], value, mask)
             self.registers[address] = word & KEPT_BITS[address]
+
+    def install(self, borders: Borders) -> None:
+        """What the end of a boot does. No latch or lock is asked."""
+        self.registers = {MPUIPC0: borders.control, MPUIPSEGB2: borders.second,
+                          MPUIPSEGB1: borders.first}
+
+    def control(self) -> int:
+        return self.registers[MPUIPC0]
 
     def enabled(self) -> bool:
         return self.registers[MPUIPC0] & ENABLE_BIT != 0

@@ -55,8 +55,8 @@ OWNER = "        elif self.dma.acts(self.bus):\n            return\n        else
 REFUSED = (
     Mistake("debug answers in a boot", "debug.py", NOT_BOOTED, ""),
     Mistake("debug answers in the tick in which a boot ends", "chip.py",
-            "        return self.boot_step is BootStep.NONE\n",
-            "        return self.boot_step >= BootStep.DONE\n"),
+            "        return self.boot.is_done()\n",
+            "        return self.boot.place >= Place.DONE\n"),
     Mistake("debug is closed before it boots", "debug.py", REFUSALS,
             NOT_OPEN + NOT_BOOTED + NOT_HALTED),
     Mistake("debug is running before it is closed", "debug.py", REFUSALS,
@@ -299,10 +299,8 @@ STILLNESS = (
             "        status = before if self.debug.halted else self.status\n"
             "        edges = edges_of(self.number, status)\n"),
     Mistake("debug's commands come behind the edges", "chip.py",
-            "        self.stimulus(events)\n        lines_of_events = len(self.lines)\n"
-            "        self.take_edges()\n",
-            "        self.take_edges()\n        self.stimulus(events)\n"
-            "        lines_of_events = len(self.lines)\n"),
+            "        self.stimulus(events)\n        self.take_edges()\n",
+            "        self.take_edges()\n        self.stimulus(events)\n"),
     Mistake("debug's commands come before all pins of their tick", "chip.py",
             "        for event in events:\n",
             "        for event in sorted(\n"
@@ -311,8 +309,6 @@ STILLNESS = (
             "        for event in events:\n",
             "        for event in sorted(\n"
             "                events, key=lambda event: not isinstance(event.act, PinLevel)):\n"),
-    Mistake("debug's lines aren't in a STOP's tick", "chip.py",
-            "            return self.lines[:lines_of_events]\n", "            return []\n"),
     Mistake("debug can't wake the dead by a vector and a reset", "chip.py",
             "self.dead = vector == NO_VECTOR", "self.dead |= vector == NO_VECTOR"),
 )

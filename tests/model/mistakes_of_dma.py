@@ -385,8 +385,8 @@ RESETS = (
             "        self.registers.set(SR, 0)\n        kept = self.dma.second_tick\n"
             "        self.reset_units(cause)\n        self.dma.second_tick = kept\n"),
     Mistake("dma keeps the second tick in a BOR", "chip.py",
-            "        self.boot_step = BootStep.START\n        self.reset_units(cause)\n",
-            "        self.boot_step = BootStep.START\n        kept = self.dma.second_tick\n"
+            "        self.boot.restart()\n        self.reset_units(cause)\n",
+            "        self.boot.restart()\n        kept = self.dma.second_tick\n"
             "        self.reset_units(cause)\n        self.dma.second_tick = kept\n"),
     Mistake("dma goes on through a PUC", "chip.py",
             "        self.dma.reset()\n",

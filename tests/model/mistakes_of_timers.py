@@ -235,7 +235,7 @@ INTERRUPTS = (
             "        self.take_edges()\n"
             "        self.timers = timers\n"
             "        edges = edges_of(self.number, self.registers.get(SR))\n"
-            "        booted = self.boot_step is BootStep.NONE\n"
+            "        booted = self.is_booted()\n"
             "        self.owner_acts()\n"
             "        for timer in timers:\n"
             "            if booted:\n"

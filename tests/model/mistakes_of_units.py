@@ -248,9 +248,8 @@ INTERRUPTS = (
 
 TICKS = (
     Mistake("the stimulus comes behind the owner", "chip.py",
-            "        self.stimulus(events)\n        lines_of_events = len(self.lines)\n"
-            "        self.take_edges()\n        self.owner_acts()\n",
-            "        lines_of_events = len(self.lines)\n"
+            "        self.stimulus(events)\n        self.take_edges()\n"
+            "        self.owner_acts()\n",
             "        self.take_edges()\n        self.owner_acts()\n"
             "        self.stimulus(events)\n"),
     Mistake("the edges come behind the owner", "chip.py",
@@ -260,14 +259,12 @@ TICKS = (
             "for event in events:", "for event in reversed(events):"),
     Mistake("events of a boot are lost", "chip.py",
             "        for event in events:",
-            "        if self.boot_step is not BootStep.NONE:\n            return\n"
+            "        if not self.is_booted():\n            return\n"
             "        for event in events:"),
     Mistake("the watchdog counts in a boot", "chip.py",
             "        if not self.is_booted():\n            return\n        edges", "        edges"),
-    Mistake("a boot takes a tick less", "chip.py",
-            "self.boot_step = BootStep(self.boot_step + 1)",
-            "self.boot_step = BootStep(max(2, self.boot_step + 1))"),
-    Mistake("the signature goes on", "chip.py", "== SIGNATURE:", "== 0x5555:"),
+    Mistake("a boot takes a tick less", "boot.py",
+            "        return Place.SIGNATURE\n", "        return self.look_at_signature()\n"),
     Mistake("the greatest cause is taken", "chip.py",
             "cause = min(self.requests)", "cause = max(self.requests)"),
     Mistake("FFFFh is a reset vector like others", "chip.py",
@@ -300,7 +297,7 @@ TICKS = (
             "        for register in range(16):\n            self.registers.set(register, 0)\n",
             "        self.registers.set(SR, 0)\n"),
     Mistake("a BOR boots no more", "chip.py",
-            "        self.boot_step = BootStep.START\n        self.reset_units",
+            "        self.boot.restart()\n        self.reset_units",
             "        self.load_reset_vector()\n        self.reset_units"),
     Mistake("a reset leaves the watchdog", "chip.py",
             "        self.watchdog.reset()\n", ""),

@@ -9,7 +9,6 @@ def report(kinds: Counter, statistics: Counter) -> str:
     lines = [f"cases: {kinds.total()} ({listed(kinds)})"]
     for name in ("ticks", "ticks asleep", "watchdog intervals", "PIN lines", "dead ends"):
         lines.append(f"{name}: {statistics[name]}")
-    lines.append(f"STOP lines: {statistics['STOP lines']}")
     lines.append(f"exit numbers: {listed(starting(statistics, 'exit '))}")
     forms = starting(statistics, "form ")
     lines.append(f"instructions: {forms.total()}, by form: {listed(forms)}")

@@ -51,7 +51,4 @@ def whole_trace(store: bytearray, bench: Bench, statistics: Counter) -> str:
     for tick in range(bench.end):
         lines += chip.tick(events.get(tick, []))
         statistics["ticks"] += 1
-        if chip.stopped:
-            statistics["STOP lines"] += 1
-            return "".join(lines) + trace.stop(tick)
     return "".join(lines) + trace.end(bench.end)

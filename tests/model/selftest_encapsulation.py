@@ -249,15 +249,6 @@ class Runs(Example):
              "39 DBG reg 1 048F8", "39 DBG reg 5 03FFF", "39 DBG read 005A2 0010"], end=40,
         )
 
-    def test_stop_behind_the_commands(self):
-        segments = [segment(START, STAY), segment(0xFF88, "AAAA"), segment(RESET_VECTOR, "4400")]
-        bench = Bench(9, 0, [Event(1, ReadWord(0)), Event(1, Go())])
-        answer = run(
-            image_bytes(segments), bench_text(bench).encode(), Counter()
-        )
-        lines = ["0 ON", "1 DBG read 00000 booting", "1 DBG go booting", "1 STOP"]
-        self.assertEqual(answer.output.splitlines(), lines)
-
 
 if __name__ == "__main__":
     unittest.main()

@@ -1,5 +1,6 @@
 """The lines of a trace (TRACE.md)."""
 
+from encapsulation import Encapsulation
 from ports import Levels
 
 
@@ -11,8 +12,13 @@ def on(tick: int) -> str:
     return line(tick, "ON")
 
 
-def boot(tick: int) -> str:
-    return line(tick, "BOOT 00 00000 00000")
+def boot(tick: int, installed: Encapsulation) -> str:
+    first, second = installed.first_border(), installed.second_border()
+    return line(tick, f"BOOT {installed.control():02X} {first:05X} {second:05X}")
+
+
+def erase(tick: int) -> str:
+    return line(tick, "ERASE")
 
 
 def debug(tick: int, command: str, answer: str) -> str:
@@ -43,10 +49,6 @@ def pin_character(levels: Levels, bit: int) -> str:
     if levels.driven >> bit & 1 == 0:
         return "z"
     return "1" if levels.high >> bit & 1 else "0"
-
-
-def stop(tick: int) -> str:
-    return line(tick, "STOP")
 
 
 def end(tick: int) -> str:
