@@ -4,15 +4,19 @@ import tomllib
 from dataclasses import dataclass, field
 
 from debug import (
-    Command, Dump, Go, Halt, ReadRegister, ReadWord, Reset, SetRegister, WriteWord,
+    Command, Dump, Erase, Go, Halt, ReadRegister, ReadWord, Reset, SetRegister, WriteWord,
 )
 from ports import Pin
+from power import Cut
 
 VERSION = 1
 LONGEST_END = 10_000_000
 EVENTS = 10_000
 EVENTS_IN_A_TICK = 8
-ROOT_KEYS = {"version", "end", "fill", "event"}
+CUTS = 1_000
+MOST_WRITES = 64
+LONGEST_OFF = 10_000_000
+ROOT_KEYS = {"version", "end", "fill", "event", "cut"}
 PINS = {Pin(port, bit).name(): Pin(port, bit) for port in range(1, 5) for bit in range(8)}
 
 ADDRESS = ("at", 0, 0xFFFFF)
@@ -29,6 +33,7 @@ COMMANDS = {
     "halt": (Halt, ()),
     "go": (Go, ()),
     "reset": (Reset, ()),
+    "erase": (Erase, ()),
 }
 
 
@@ -53,6 +58,7 @@ class Bench:
     end: int = 1000
     fill: int = 0
     events: list[Event] = field(default_factory=list)
+    cuts: list[Cut] = field(default_factory=list)
 
     def events_of_ticks(self) -> dict[int, list[Event]]:
         ticks: dict[int, list[Event]] = {}
@@ -67,6 +73,8 @@ def bench_text(bench: Bench) -> str:
     lines = [f"version = {VERSION}", f"end = {bench.end}", f"fill = {bench.fill}"]
     for event in bench.events:
         lines += ["", "[[event]]", f"tick = {event.tick}", *lines_of_act(event.act)]
+    for cut in bench.cuts:
+        lines += ["", "[[cut]]", f"tick = {cut.tick}", f"writes = {cut.writes}", f"off = {cut.off}"]
     return "\n".join(lines) + "\n"
 
 
@@ -99,36 +107,56 @@ def bench_of_text(file: bytes) -> Bench:
         raise Refused("Field(End)")
     if not is_integer(root.get("fill", 0), 0, 255):
         raise Refused("Field(Fill)")
-    tables = root.get("event", [])
-    if not isinstance(tables, list):
-        raise Refused("Field(Event)")
+    events, cuts = root.get("event", []), root.get("cut", [])
+    for name, tables in (("Event", events), ("Cut", cuts)):
+        if not isinstance(tables, list):
+            raise Refused(f"Field({name})")
     if set(root) - ROOT_KEYS:
         raise Refused("Field(Unknown)")
-    if len(tables) > EVENTS:
-        raise Refused("TooMany")
+    for tables, most in ((events, EVENTS), (cuts, CUTS)):
+        if len(tables) > most:
+            raise Refused(f"TooMany({len(tables)})")
     bench = Bench(root["end"], root.get("fill", 0))
-    for table in tables:
-        add_event(bench, table)
+    for index, table in enumerate(events):
+        add_event(bench, table, f"Event({index})")
+    for index, table in enumerate(cuts):
+        add_cut(bench, table, f"Cut({index})")
     return bench
 
 
-def add_event(bench: Bench, table) -> None:
+def add_event(bench: Bench, table, refusal: str) -> None:
     if not isinstance(table, dict):
-        raise Refused("Event")
+        raise Refused(refusal)
     keys = dict(table)
     tick = keys.pop("tick", None)
     earlier = bench.events
     least_tick = earlier[-1].tick if earlier else 0
     if not is_integer(tick, least_tick, bench.end - 1):
-        raise Refused("Event")
+        raise Refused(refusal)
     if sum(event.tick == tick for event in earlier[-EVENTS_IN_A_TICK:]) == EVENTS_IN_A_TICK:
-        raise Refused("Event")
+        raise Refused(refusal)
     act = pin_level(keys)
     if act is None:
         act = command(keys)
     if act is None:
-        raise Refused("Event")
+        raise Refused(refusal)
     bench.events.append(Event(tick, act))
+
+
+def add_cut(bench: Bench, table, refusal: str) -> None:
+    """Power has to be on in a cut's tick: that lies behind the ticks that the cut before left off."""
+    if not isinstance(table, dict) or set(table) != {"tick", "writes", "off"}:
+        raise Refused(refusal)
+    cut = Cut(table["tick"], table["writes"], table["off"])
+    last_off = bench.cuts[-1].tick + bench.cuts[-1].off if bench.cuts else -1
+    right = (
+        is_integer(cut.tick, last_off + 1, bench.end - 1)
+        and is_integer(cut.writes, 0, MOST_WRITES)
+        and is_integer(cut.off, 1, LONGEST_OFF)
+    )
+    if not right:
+        raise Refused(refusal)
+    bench.cuts.append(cut)
 
 
 def pin_level(keys: dict) -> PinLevel | None:

@@ -5,11 +5,11 @@ of power as FRAM does.
 """
 
 from collections import Counter
-from dataclasses import dataclass
 from enum import IntEnum, auto
 
 from encapsulation import Borders
 from memory import ADDRESS_MASK, FRAM_REGIONS, VACANT_WORD, Memory, region_of
+from power import Writes
 
 SIGNATURE_ADDRESS = 0xFF88
 SIGNATURE = 0xAAAA
@@ -35,10 +35,19 @@ class Mark(IntEnum):
     ERASING = 0x5A02
 
 
-@dataclass
 class HiddenWords:
-    mark: Mark = Mark.EMPTY
-    pointer: int = 0
+    def __init__(self, writes: Writes):
+        self.writes = writes
+        self.mark = Mark.EMPTY
+        self.pointer = 0
+
+    def write_mark(self, mark: Mark) -> None:
+        if not self.writes.next_is_absent("mark"):
+            self.mark = mark
+
+    def write_pointer(self, pointer: int) -> None:
+        if not self.writes.next_is_absent("ptr"):
+            self.pointer = pointer
 
 
 class Place(IntEnum):
@@ -58,9 +67,12 @@ class Place(IntEnum):
 
 
 class Boot:
-    def __init__(self, memory: Memory, hidden: HiddenWords, statistics: Counter):
+    def __init__(
+        self, memory: Memory, hidden: HiddenWords, writes: Writes, statistics: Counter
+    ):
         self.memory = memory
         self.hidden = hidden
+        self.writes = writes
         self.statistics = statistics
         self.restart()
 
@@ -122,20 +134,21 @@ class Boot:
         return Place.DONE if self.hidden.mark is Mark.SAVED else Place.SAVE_POINTER
 
     def save_pointer(self) -> Place:
-        self.hidden.pointer = self.pointer
+        self.hidden.write_pointer(self.pointer)
         return Place.SAVE_MARK
 
     def save_mark(self) -> Place:
-        self.hidden.mark = Mark.SAVED
+        self.hidden.write_mark(Mark.SAVED)
         return Place.DONE
 
     def mark_erase(self) -> Place:
-        self.hidden.mark = Mark.ERASING
+        self.hidden.write_mark(Mark.ERASING)
         return Place.WIPE
 
     def wipe(self) -> Place:
         address = self.wiped_next
-        self.memory.write_word(address, ERASED_WORD)
+        if not self.writes.next_is_absent("boot"):
+            self.memory.write_word(address, ERASED_WORD)
         if address == LAST_OF_MAIN:
             return Place.MARK_EMPTY
         self.wiped_next = FIRST_OF_MAIN if address == LAST_OF_INFORMATION else address + 2
@@ -143,7 +156,7 @@ class Boot:
 
     def mark_empty(self) -> Place:
         self.tell("erase ended")
-        self.hidden.mark = Mark.EMPTY
+        self.hidden.write_mark(Mark.EMPTY)
         return Place.DONE
 
     def read(self, address: int) -> int:

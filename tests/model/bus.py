@@ -10,6 +10,7 @@ from encapsulation import Encapsulation
 from memory import (
     ADDRESS_MASK, BYTE_OF_NO_STORE, FRAM_REGIONS, VACANT_WORD, Memory, Region, region_of,
 )
+from power import Writes
 from protection import Place, Protection
 from registers_of_units import HIGH_HALF, LOW_HALF, WORD
 from right import Right
@@ -31,12 +32,13 @@ JUDGED_BY_SEGMENTS = (Agent.PROCESSOR, Agent.DMA)
 class Bus:
     def __init__(
         self, memory: Memory, units, request: Callable[[Cause], None],
-        encapsulation: Encapsulation, protection: Protection,
+        encapsulation: Encapsulation, protection: Protection, writes: Writes,
     ):
         self.memory = memory
         self.request = request
         self.encapsulation = encapsulation
         self.protection = protection
+        self.writes = writes
         self.agent = Agent.PROCESSOR
         self.instruction: int | None = None  # where that of the processor begins
         self.accesses_to_fram = 0  # of this step
@@ -72,6 +74,8 @@ class Bus:
         at &= ADDRESS_MASK
         if size == "w":
             at &= ~1
+        if self.writes.next_is_absent(self.agent.value):
+            return
         if region_of(at) is Region.PERIPHERALS:
             self.write_register(at, size, value)
         elif self.is_refused(at, Right.WRITE):

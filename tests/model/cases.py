@@ -34,7 +34,7 @@ WRONG_COMMANDS = (
     ('debug = "write"', "at = 0", "value = 65536"), ('debug = "dump"', "at = 0", "count = 33"),
     ('debug = "dump"', "at = 0", "count = 0"), ('debug = "dump"', "at = 1048576", "count = 1"),
     ('debug = "reg"', "reg = 16"), ('debug = "setreg"', "reg = 16", "value = 0"),
-    ('debug = "setreg"', "reg = 4", "value = 1048576"), ('debug = "erase"',),
+    ('debug = "setreg"', "reg = 4", "value = 1048576"), ('debug = "erase"', "at = 0"),
     ('debug = "halt"', "at = 0"), ('debug = "go"', 'pin = "P1.0"', "level = 1"),
     ('debug = "read"', "at = 0", "value = 0"), ('debug = "setreg"', "reg = 4"),
 )

@@ -1,4 +1,4 @@
-"""The chip and its tick: power, stimulus, timers, bus owner, reset (MACHINE.md, A tick)."""
+"""The chip and its tick: power, stimulus, timers, bus owner, reset, cut (MACHINE.md, A tick)."""
 
 from collections import Counter
 
@@ -17,6 +17,7 @@ from interrupts import CPUOFF_BIT, PC, SR
 from latch import Latch
 from memory import Memory
 from ports import Ports
+from power import Power, Writes
 from protection import Protection
 from registers import Registers
 from system import CAUSES_OF_BOR, Cause, System
@@ -31,13 +32,16 @@ class Chip:
     def __init__(self, store: bytearray, fill: int, statistics: Counter):
         self.statistics = statistics
         self.number = 0
+        self.powered = False
         self.lines: list[str] = []
         self.requests: set[Cause] = set()
         self.registers = Registers()
         self.busy = 0
         self.dead = False
         self.memory = Memory(store, fill)
-        self.boot = Boot(self.memory, HiddenWords(), statistics)
+        self.writes = Writes(statistics)
+        self.hidden = HiddenWords(self.writes)
+        self.boot = Boot(self.memory, self.hidden, self.writes, statistics)
         self.system = System(self.requests.add)
         self.ports = Ports(lambda: self.system.locked)
         self.watchdog = Watchdog(self.requests.add, self.system.set_watchdog_flag)
@@ -50,10 +54,11 @@ class Chip:
         units = (self.system, self.ports, self.watchdog, *self.timers, self.dma, self.fram,
                  self.protection, self.encapsulation)
         self.bus = Bus(
-            self.memory, units, self.requests.add, self.encapsulation, self.protection
+            self.memory, units, self.requests.add, self.encapsulation, self.protection, self.writes
         )
         self.debug = DebugPort(
-            self.registers, self.bus, self.memory, self.requests.add, self.is_booted, statistics
+            self.registers, self.bus, self.memory, self.hidden, self.requests.add,
+            self.is_booted, statistics,
         )
         self.nmi = interrupts.nmi_of(self.protection)
         self.interrupt_lines = interrupts.lines_of(
@@ -62,23 +67,47 @@ class Chip:
         self.drives = self.ports.what_drives()
         self.levels = self.ports.levels()
 
-    def tick(self, events: list[Event]) -> list[str]:
+    def tick(self, events: list[Event], power: Power) -> list[str]:
         """One tick, and its lines."""
         self.lines = []
-        self.power()
-        self.stimulus(events)
-        self.take_edges()
-        self.owner_acts()
-        self.protection.end_step()
-        self.take_reset()
+        self.writes.begin_tick(power.whole_writes)
+        if power.is_on:
+            self.tick_with_power(events)
+        else:
+            self.stimulus(events)
         self.compare_levels()
         self.number += 1
         return self.lines
 
-    def power(self) -> None:
-        if self.number == 0:
-            self.power_on_reset(Cause.POWER_ON)
-            self.lines.append(trace.on(self.number))
+    def tick_with_power(self, events: list[Event]) -> None:
+        if not self.powered:
+            self.come_on()
+        self.stimulus(events)
+        lines_of_events = len(self.lines)
+        self.take_edges()
+        self.owner_acts()
+        self.protection.end_step()
+        if self.writes.end_in_a_cut():
+            del self.lines[lines_of_events:]  # what the owner did has no lines in such a tick
+            self.lose_power()
+        else:
+            self.take_reset()
+
+    # Power
+
+    def come_on(self) -> None:
+        self.powered = True
+        self.power_on_reset(Cause.POWER_ON)
+        self.lines.append(trace.on(self.number))
+
+    def lose_power(self) -> None:
+        """FRAM, the hidden words and the external levels stand."""
+        self.lines.append(trace.cut(self.number))
+        self.powered = False
+        self.memory.lose_sram()
+        self.power_on_reset(Cause.POWER_ON)
+
+    # Events
 
     def stimulus(self, events: list[Event]) -> None:
         for event in events:
@@ -117,7 +146,8 @@ class Chip:
 
     def boot_acts(self) -> None:
         if self.boot.place is Place.DONE:
-            self.end_boot()
+            if not self.writes.end_in_a_cut():
+                self.end_boot()
             return
         if self.boot.erases_first_word():
             self.lines.append(trace.erase(self.number))

@@ -7,6 +7,7 @@ from collections import Counter
 from collections.abc import Callable
 from dataclasses import dataclass
 
+from boot import HiddenWords, Mark
 from bus import Agent, Bus
 from memory import ADDRESS_MASK, Memory
 from registers import Registers
@@ -80,18 +81,25 @@ class Reset:
         return "reset"
 
 
-Command = ReadWord | WriteWord | Dump | ReadRegister | SetRegister | Halt | Go | Reset
+@dataclass(frozen=True)
+class Erase:
+    def text(self) -> str:
+        return "erase"
+
+
+Command = ReadWord | WriteWord | Dump | ReadRegister | SetRegister | Halt | Go | Reset | Erase
 COMMANDS_OF_REGISTERS = (ReadRegister, SetRegister)
 
 
 class DebugPort:
     def __init__(
-        self, registers: Registers, bus: Bus, memory: Memory, request: Callable[[Cause], None],
-        is_booted: Callable[[], bool], statistics: Counter,
+        self, registers: Registers, bus: Bus, memory: Memory, hidden: HiddenWords,
+        request: Callable[[Cause], None], is_booted: Callable[[], bool], statistics: Counter,
     ):
         self.registers = registers
         self.bus = bus
         self.memory = memory
+        self.hidden = hidden
         self.request = request
         self.is_booted = is_booted
         self.statistics = statistics
@@ -148,6 +156,9 @@ class DebugPort:
                 self.halted = False
                 self.halt_is_pending = False
             case Reset():
+                self.request(Cause.DEBUG_RESET)
+            case Erase():
+                self.hidden.write_mark(Mark.ERASING)
                 self.request(Cause.DEBUG_RESET)
         return OK
 

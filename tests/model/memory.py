@@ -67,9 +67,13 @@ class Memory:
 
     def __init__(self, store: bytearray, fill: int):
         self.store = bytearray(store)
+        self.fill = fill
+        self.lose_sram()
+
+    def lose_sram(self) -> None:
         for page in range(0, STORED_BYTES, PAGE_SIZE):
             if region_of(page) is Region.SRAM:
-                self.store[page:page + PAGE_SIZE] = bytes([fill]) * PAGE_SIZE
+                self.store[page:page + PAGE_SIZE] = bytes([self.fill]) * PAGE_SIZE
 
     def read_byte(self, address: int) -> int:
         if region_of(address) in STORED_REGIONS:

@@ -14,7 +14,7 @@ MEMORY = (
     Mistake("FRAM ends a page early", "memory.py",
             "(0x14000, Region.VACANT)", "(0x13F00, Region.VACANT)"),
     Mistake("SRAM is 0 at first", "memory.py",
-            "bytes([fill]) * PAGE_SIZE", "bytes(PAGE_SIZE)"),
+            "bytes([self.fill]) * PAGE_SIZE", "bytes(PAGE_SIZE)"),
     Mistake("erased FRAM is 0", "memory.py", "ERASED_BYTE = 0xFF", "ERASED_BYTE = 0"),
     Mistake("the earlier header decides", "image.py",
             "for index in range(headers):", "for index in reversed(range(headers)):"),
@@ -39,8 +39,8 @@ MEMORY = (
             "return (old & ~mask | value & mask) & WORD", "return value & WORD"),
     Mistake("a word at an odd address is written there", "bus.py",
             "        if size == \"w\":\n            at &= ~1\n"
-            "        if region_of(at) is Region.PERIPHERALS:\n            self.write_register",
-            "        if region_of(at) is Region.PERIPHERALS:\n            self.write_register"),
+            "        if self.writes.next_is_absent",
+            "        if self.writes.next_is_absent"),
 )
 SYSTEM = (
     Mistake("a read of SYSRSTIV leaves it", "system.py",
@@ -248,8 +248,9 @@ INTERRUPTS = (
 
 TICKS = (
     Mistake("the stimulus comes behind the owner", "chip.py",
-            "        self.stimulus(events)\n        self.take_edges()\n"
-            "        self.owner_acts()\n",
+            "        self.stimulus(events)\n        lines_of_events = len(self.lines)\n"
+            "        self.take_edges()\n        self.owner_acts()\n",
+            "        lines_of_events = len(self.lines)\n"
             "        self.take_edges()\n        self.owner_acts()\n"
             "        self.stimulus(events)\n"),
     Mistake("the edges come behind the owner", "chip.py",
@@ -305,8 +306,11 @@ TICKS = (
     Mistake("other requests stay", "chip.py",
             "        self.requests.clear()\n", "        self.requests.discard(cause)\n"),
     Mistake("RST stands behind PIN", "chip.py",
-            "        self.take_reset()\n        self.compare_levels()\n",
-            "        self.compare_levels()\n        self.take_reset()\n"),
+            "        self.compare_levels()\n        self.number += 1\n",
+            "        resets = [line for line in self.lines if line.split()[1] in (\"RST\", \"DEAD\")]\n"
+            "        self.lines = [line for line in self.lines if line not in resets]\n"
+            "        self.compare_levels()\n        self.lines += resets\n"
+            "        self.number += 1\n"),
     Mistake("pins are written from bit 0 on", "trace.py",
             "for bit in reversed(range(8))", "for bit in range(8)"),
 )

@@ -8,6 +8,7 @@ import image as images
 import trace
 from bench import Bench
 from chip import Chip
+from power import Schedule
 
 LONGEST_IMAGE = 4_194_304
 LONGEST_BENCH = 1_048_576
@@ -47,8 +48,9 @@ def run(image: bytes, bench: bytes | None, statistics: Counter) -> Answer:
 def whole_trace(store: bytearray, bench: Bench, statistics: Counter) -> str:
     chip = Chip(store, bench.fill, statistics)
     events = bench.events_of_ticks()
+    schedule = Schedule(bench.cuts)
     lines: list[str] = []
     for tick in range(bench.end):
-        lines += chip.tick(events.get(tick, []))
+        lines += chip.tick(events.get(tick, []), schedule.at(tick))
         statistics["ticks"] += 1
     return "".join(lines) + trace.end(bench.end)

@@ -37,6 +37,10 @@ def dead(tick: int) -> str:
     return line(tick, "DEAD")
 
 
+def cut(tick: int) -> str:
+    return line(tick, "CUT")
+
+
 def pin(tick: int, port: int, levels: Levels) -> str:
     return line(tick, f"PIN P{port} {pins_text(levels)}")
 
