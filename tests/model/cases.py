@@ -5,18 +5,24 @@ from collections.abc import Sequence
 from dataclasses import dataclass, field
 
 import actions
+import boot_actions
+import boot_sessions
 import debug_situations
 import dma_actions
 import dma_situations
 import encapsulation_actions
 import encapsulation_situations
+import power_actions
 import protection_actions
 import protection_situations
 import timer_actions
 import timer_situations
 from bench import PINS, LONGEST_END, Bench, Event, PinLevel, bench_text
-from image import HEADER, Segment, image_bytes
+from debug_situations import Session
+from image import HEADER, Segment, image_bytes, store_of_image
 from layout import Program
+from player import Player, random_temper
+from power import Cut
 from programs import (
     Style, random_instructions, random_program, stack_on_flags, stack_on_timers,
 )
@@ -27,6 +33,7 @@ TIMES_FOR_PROTECTION = 3  # what is protected has to be set up first, and waits 
 SHARE_OF_REFUSED = 0.05
 SHARE_OF_SINGLE_COMMANDS = 0.05
 SHARE_OF_DEAD_ENDS = 0.01
+SHARE_OF_CUTS = 0.08  # where the kind of the case has none of its own
 EDGES_OF_ADDRESSES = ("0", "1048575", "1048576", "-1", "0xFFFFF", "65536")
 EDGES_OF_REGISTERS = ("0", "15", "16", "-1")
 WRONG_COMMANDS = (
@@ -163,6 +170,43 @@ DEBUG = Style(
     interrupts=0.4, longest_chapter=12, loops=0.4, rescued=0.2, has_vault=True,
 )
 
+# Boots and cuts
+
+ON_BOOTS = ((boot_actions.act_on_boots, 3), (encapsulation_situations.call_in, 1.5))
+BOOTS = Style(
+    weights=(
+        (boot_actions.act_on_boots, 8), (encapsulation_situations.call_in, 4),
+        (encapsulation_situations.act_in_a_situation, 1.5), (power_actions.write_something, 1),
+        (actions.act_on_ports, 0.5), (actions.wait, 1), (actions.watch_anything, 0.3),
+    ),
+    interrupts=0.2, longest_chapter=8, loops=0.2, has_vault=True, structures=1.0,
+    wrong_structures=0.03, structures_outside=0.02, counts_in_fram=0.6,
+)
+CUTS = Style(
+    weights=((power_actions.write_something, 12), *ON_BOOTS, (actions.wait, 0.7),
+             (actions.act_on_status, 0.5), (random_instructions, 0.7), (actions.act_on_ports, 0.5)),
+    interrupts=0.4, longest_chapter=12, loops=0.4, has_vault=True, structures=0.5,
+    wrong_structures=0.02, counts_in_fram=0.9,
+)
+CUTS_OF_ANYTHING = Style(
+    weights=(
+        (power_actions.write_something, 4), *ON_BOOTS, (timer_actions.set_up, 2),
+        (timer_situations.act_in_a_situation, 2), (dma_actions.act_on_dma, 1),
+        (dma_situations.act_in_a_situation, 3), (protection_situations.act_in_a_situation, 3),
+        (encapsulation_situations.act_in_a_situation, 3), (actions.act_on_status, 2),
+        (actions.enable_port_interrupts, 1), (actions.act_on_system, 1),
+        (actions.set_watchdog, 0.7), (actions.wait, 1), (random_instructions, 1),
+    ),
+    interrupts=0.8, longest_chapter=12, loops=0.3, rescued=0.2, has_vault=True, structures=0.4,
+    wrong_structures=0.02, counts_in_fram=0.7,
+)
+ERASES = Style(
+    weights=((power_actions.write_something, 4), *ON_BOOTS, (actions.wait, 1),
+             (actions.act_on_ports, 1)),
+    interrupts=0.2, longest_chapter=8, loops=0.5, has_vault=True, structures=0.8,
+    wrong_structures=0.25, structures_outside=0.08, counts_in_fram=0.8,
+)
+
 STYLES_WITHOUT_PROTECTION = {
     "instructions": INSTRUCTIONS, "system": SYSTEM, "interrupts": INTERRUPTS, "loops": LOOPS,
     "timers": TIMERS, "timers and interrupts": TIMERS_WITH_INTERRUPTS,
@@ -177,12 +221,16 @@ LONG_STYLES = {
     "encapsulation and dma": ENCAPSULATION_WITH_DMA,
     "debug": DEBUG,
 }
-STYLES = STYLES_WITHOUT_PROTECTION | LONG_STYLES
+STYLES_WITH_CUTS = {
+    "boots": BOOTS, "cuts": CUTS, "cuts of anything": CUTS_OF_ANYTHING, "erases": ERASES,
+}
+STYLES = STYLES_WITHOUT_PROTECTION | LONG_STYLES | STYLES_WITH_CUTS
 WEIGHT_OF_STYLE = {"instructions": 4, "system": 3, "interrupts": 3, "loops": 1, "timers": 5,
                    "timers and interrupts": 5, "dma": 15, "dma and interrupts": 11,
                    "waits": 7, "protection": 22, "protection and interrupts": 17,
                    "protection and dma": 15, "encapsulation": 55,
-                   "encapsulation and interrupts": 40, "encapsulation and dma": 30, "debug": 60}
+                   "encapsulation and interrupts": 40, "encapsulation and dma": 30, "debug": 60,
+                   "boots": 70, "cuts": 90, "cuts of anything": 60, "erases": 25}
 
 
 @dataclass
@@ -215,10 +263,8 @@ def random_case(seed: int, index: int) -> Case:
     if rng.random() < 0.1:
         overlap(rng, segments)
     case = Case(kind, segments, random_bench(rng))
-    if kind in LONG_STYLES and case.bench is not None and case.bench.end < LONG_RUN:
-        case.bench.end *= TIMES_FOR_PROTECTION
-    if case.bench is not None and rng.random() < SHARE_OF_DEBUGGED.get(kind, 0.3):
-        add_sessions(rng, case.bench, program)
+    if case.bench is not None:
+        fill_bench(rng, case, program)
     if rng.random() < SHARE_OF_REFUSED:
         spoil_files(rng, case)
     elif rng.random() < SHARE_OF_SINGLE_COMMANDS:
@@ -233,7 +279,7 @@ def dead_end(rng: random.Random, program: Program) -> Case:
     segments.append(Segment(0xFFFE, bytes((0xFF, 0xFF))))
     bench = Bench(LONG_END, 0, random_events(rng, LONG_END))
     if rng.random() < 0.7:
-        add_sessions(rng, bench, program)
+        add_sessions(rng, bench, program, debug_situations.SESSIONS)
     return Case("dead end", segments, bench)
 
 
@@ -249,6 +295,44 @@ def overlap(rng: random.Random, segments: list[Segment]) -> None:
 
 
 # Benches
+
+def fill_bench(rng: random.Random, case: Case, program: Program) -> None:
+    """What comes to the debug port, and power cuts."""
+    bench = case.bench
+    if case.kind in LONG_STYLES and bench.end < LONG_RUN:
+        bench.end *= TIMES_FOR_PROTECTION
+    if case.kind in STYLES_WITH_CUTS:
+        play_bench(rng, case, program)
+        return
+    if rng.random() < SHARE_OF_DEBUGGED.get(case.kind, 0.3):
+        add_sessions(rng, bench, program, debug_situations.SESSIONS)
+    if rng.random() < SHARE_OF_CUTS:
+        bench.cuts = random_cuts(rng, bench.end)
+
+
+def play_bench(rng: random.Random, case: Case, program: Program) -> None:
+    erases = case.kind == "erases"
+    sessions = boot_sessions.ERASE_SESSIONS if erases else boot_sessions.BOOT_SESSIONS
+    case.bench.end = rng.randrange(100, 3000)
+    if rng.random() < 0.7:
+        add_sessions(rng, case.bench, program, sessions)
+    targets = debug_situations.Targets(rng, program.places, program.codes)
+    temper = random_temper(rng, 0.9 if erases else 0.2, sessions)
+    store = store_of_image(image_bytes(case.segments))
+    case.bench = Player(rng, store, case.bench, targets, temper).play()
+
+
+def random_cuts(rng: random.Random, end: int) -> list[Cut]:
+    """Wherever they come."""
+    cuts: list[Cut] = []
+    tick = rng.randrange(end)
+    for _ in range(rng.choice((1, 2, 5, 20))):
+        if tick >= end:
+            break
+        cuts.append(Cut(tick, rng.choice((0, 0, 1, 2, 5, 64)), rng.choice((1, 1, 2, 7, 40))))
+        tick += cuts[-1].off + rng.choice((1, rng.randrange(1, 30), rng.randrange(1, 1000)))
+    return cuts
+
 
 def random_bench(rng: random.Random) -> Bench | None:
     if rng.random() < 0.03:
@@ -289,12 +373,12 @@ def random_events(rng: random.Random, end: int) -> list[Event]:
     return events
 
 
-def add_sessions(rng: random.Random, bench: Bench, program: Program) -> None:
+def add_sessions(
+    rng: random.Random, bench: Bench, program: Program, sessions: Sequence[tuple[Session, float]]
+) -> None:
     """What comes to the debug port, before or behind what comes to the pins in the same tick."""
-    parts = [
-        bench.events,
-        debug_situations.random_sessions(rng, bench.end, program.places, program.codes),
-    ]
+    targets = debug_situations.Targets(rng, program.places, program.codes)
+    parts = [bench.events, debug_situations.random_sessions(rng, bench.end, targets, sessions)]
     rng.shuffle(parts)
     events = sorted(parts[0] + parts[1], key=lambda event: event.tick)
     bench.events = debug_situations.at_most_eight_in_a_tick(events)

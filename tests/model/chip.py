@@ -103,9 +103,18 @@ class Chip:
     def lose_power(self) -> None:
         """FRAM, the hidden words and the external levels stand."""
         self.lines.append(trace.cut(self.number))
+        self.tell_cut()
         self.powered = False
         self.memory.lose_sram()
         self.power_on_reset(Cause.POWER_ON)
+
+    def tell_cut(self) -> None:
+        if not self.boot.is_done():
+            self.statistics[f"cut before the boot step {self.boot.place.name}"] += 1
+        elif self.debug.halted or self.dead or self.registers.get(SR) & CPUOFF_BIT:
+            self.statistics["cut of a processor that is still"] += 1
+        else:
+            self.statistics["cut of a processor at work"] += 1
 
     # Events
 

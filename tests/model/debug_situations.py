@@ -4,7 +4,7 @@ A session knows where the program's parts lie, and not what the processor does a
 """
 
 import random
-from collections.abc import Callable
+from collections.abc import Callable, Sequence
 
 import actions
 import timer_actions
@@ -52,6 +52,8 @@ class Targets:
         self.favourite = rng.choice((0x1C00, 0x23F0, *self.code_addresses))
 
     def address(self, rng: random.Random) -> int:
+        if self.places.structures and rng.random() < 0.15:
+            return rng.choice(self.places.structures) + 2 * rng.randrange(4)
         chance = rng.random()
         if chance < 0.3:
             return self.vault.random_address(rng)
@@ -409,13 +411,12 @@ SESSIONS: tuple[tuple[Session, float], ...] = (
 
 
 def random_sessions(
-    rng: random.Random, end: int, places: Places, codes: list[Code]
+    rng: random.Random, end: int, targets: Targets, sessions: Sequence[tuple[Session, float]]
 ) -> list[Event]:
     """The events of some sessions, in their order. There may be too many in a tick."""
-    targets = Targets(rng, places, codes)
     events = []
     for _ in range(rng.choice((1, 2, 4, 8, 15))):
-        session, = rng.choices(*zip(*SESSIONS))
+        session, = rng.choices(*zip(*sessions))
         begin = rng.randrange(min(end, 8)) if rng.random() < 0.08 else rng.randrange(end)
         events += [Event(begin + tick, command) for tick, command in session(rng, targets)]
     return sorted((event for event in events if event.tick < end), key=lambda event: event.tick)

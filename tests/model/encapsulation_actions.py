@@ -9,7 +9,7 @@ import random
 import actions
 import assembler
 from assembler import absolute, immediate, two
-from layout import SLOT_SIZE, Code
+from layout import SLOT_SIZE, Code, Places
 from protection_actions import (
     GRAIN, MAIN, MPUCTL0, MPUCTL1, PASSWORD, SEGIE, SYSSNIV, open_latch, random_border,
     random_control, write_word,
@@ -42,9 +42,9 @@ def area_at_the_bridge(rng: random.Random, code: Code) -> Area:
     return bridge - GRAIN * rng.choice((1, 1, 4)), bridge
 
 
-def unusual_area(rng: random.Random, code: Code) -> Area:
+def unusual_area(rng: random.Random, places: Places) -> Area:
     """Without an address, without an end in main FRAM, or round the vectors."""
-    vault = code.places.vault
+    vault = places.vault
     return rng.choice((
         (vault.end, vault.first), (vault.first, vault.first), (0, 0), (0, GRAIN), (0, 0x4400),
         (0x4000, 0x4400), (0, vault.end), (0x4400, 0x14000), (0x1800, 0xFFC00), (0, 0xFFC00),
@@ -67,7 +67,7 @@ def random_area(rng: random.Random, code: Code) -> Area:
         return random_border(rng, code), random_border(rng, code)
     if chance < 0.85:
         return rng.randrange(0, MAIN[1] + GRAIN, GRAIN), rng.randrange(0, MAIN[1] + GRAIN, GRAIN)
-    return unusual_area(rng, code)
+    return unusual_area(rng, code.places)
 
 
 # Registers

@@ -8,6 +8,7 @@ import random
 
 import actions
 import assembler
+import boot_actions
 import dma_actions
 import encapsulation_actions
 import protection_actions
@@ -25,6 +26,8 @@ PUSH_R11 = 0x140B  # of 20 bits
 BYTES_WITHOUT_DATA = 8
 KEPT_STACK = 0x1C3C  # where the vault keeps SP while it has another
 WORDS_OF_A_DOOR = 120
+# Of a program with structures. Those in the seal can be written from inside alone.
+SHARE_OF_WORK_ON_BOOTS = 0.15
 
 DATA_REGISTERS = range(4, 11)
 
@@ -97,6 +100,8 @@ def write_door(rng: random.Random, code: Code, vault: Vault) -> None:
         if code.here > last:
             break
         work, = rng.choices(*zip(*WORK))
+        if code.places.structures and rng.random() < SHARE_OF_WORK_ON_BOOTS:
+            work = boot_actions.act_on_boots
         work(rng, code)
     if rng.random() < 0.2:
         actions.show_register(rng, code)
@@ -271,7 +276,7 @@ def write_beginning(rng: random.Random, start: Code) -> None:
         for address in REGISTERS:  # the latch is closed here
             start.put(assembler.store(address, rng.randrange(0x10000)))
             actions.show(rng, start, address)
-    if rng.random() < 0.5:
+    if rng.random() < 0.5 and not start.places.structures:  # a boot may set LOCK each time
         start.put(two("BIT", immediate(LOCK), absolute(MPUIPC0)))
         start.jump("JEQ", start.here + 8)
         start.put(assembler.store(actions.PMMCTL0, 0xA504))

@@ -55,6 +55,8 @@ class Places:
     bridge: int = 0x8000  # a border that an instruction lies over
     vault: Vault | None = None
     helper: int = 0x4400  # a routine that the vault calls
+    structures: list[int] = field(default_factory=list)  # where a boot may be led to
+    counter: int = 0x1C00  # a word that counts how often the start ran
 
 
 class Code:

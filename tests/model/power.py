@@ -64,5 +64,5 @@ class Writes:
         if self.whole is None:
             return False
         absent = self.count > self.whole
-        self.statistics[f"cut: {'absent' if absent else 'whole'} write of {writer}"] += 1
+        self.statistics[f"{'absent' if absent else 'whole'} in a cut: {writer}"] += 1
         return absent

@@ -13,11 +13,12 @@ import assembler
 import dma_actions
 import encapsulation_routines
 import protection_routines
+import structures
 import timer_actions
 from assembler import Operand, absolute, immediate, indexed, register, two
 from image import Segment
 from instruction_words import InstructionMaker, Knobs
-from layout import SLOT_SIZE, Code, Program
+from layout import INFORMATION, INFORMATION_SIZE, SLOT_SIZE, Code, Program
 
 RESET_VECTOR = 0xFFFE
 WATCHDOG_VECTOR = 0xFFF2
@@ -54,6 +55,10 @@ class Style:
     loops: float = 0.35  # the share of chapters that begin again at their end
     rescued: float = 0.0  # the share of programs that the watchdog resets again and again
     has_vault: bool = False  # code that is to be encapsulated
+    structures: float = 0.0  # the share of programs that have structures for a boot
+    wrong_structures: float = 0.0  # of which this share has a bad check
+    structures_outside: float = 0.0  # and this share lies outside of FRAM
+    counts_in_fram: float = 0.0  # the share whose count of starts outlasts a cut
 
 
 def random_program(rng: random.Random, style: Style) -> Program:
@@ -63,6 +68,13 @@ def random_program(rng: random.Random, style: Style) -> Program:
         program.reserve_vault(rng)
     start = program.low_code()
     program.places.start = start.address
+    program.places.counter = 0x1C00 + 2 * rng.randrange(0x10)
+    if rng.random() < style.counts_in_fram:
+        program.places.counter = INFORMATION + 2 * rng.randrange(INFORMATION_SIZE // 2)
+    if rng.random() < style.structures:
+        structures.write_structures(
+            rng, program, style.wrong_structures, style.structures_outside
+        )
     write_protection(rng, program, start)
     if style.has_vault:
         encapsulation_routines.write_helper(rng, program)
@@ -162,7 +174,7 @@ def write_choice(
     rng: random.Random, program: Program, start: Code, chapters: list[Code]
 ) -> None:
     """Counts the runs, and goes to one chapter after the other."""
-    counter = 0x1C00 + 2 * rng.randrange(0x10)
+    counter = program.places.counter
     start.put(two("MOV", absolute(counter), register(15)))
     start.put(two("ADD", immediate(2), absolute(counter)))
     start.put(two("AND", immediate(2 * len(chapters) - 2), register(15)))

@@ -21,6 +21,7 @@ def report(kinds: Counter, statistics: Counter) -> str:
     lines.append(f"interrupts of DMA: {entries['FFE4']}")
     lines += protection_lines(statistics)
     lines += debug_lines(statistics)
+    lines += power_lines(statistics)
     return "\n".join(wrapped(line) for line in lines) + "\n"
 
 
@@ -77,6 +78,16 @@ def debug_lines(statistics: Counter) -> list[str]:
         f"halts: {halts.total()}, by what they met: {listed(halts)}",
         f"ticks in which a halt waited for the way out of the seal: "
         f"{statistics['ticks that a halt waits in the seal']}",
+    ]
+
+
+def power_lines(statistics: Counter) -> list[str]:
+    cuts = starting(statistics, "cut ")
+    return [
+        f"boots, and what they found: {listed(starting(statistics, 'boot: '))}",
+        f"cuts: {cuts.total()}, by where they came: {listed(cuts)}",
+        f"writes in the tick of a cut, whole: {listed(starting(statistics, 'whole in a cut: '))}",
+        f"and absent: {listed(starting(statistics, 'absent in a cut: '))}",
     ]
 
 

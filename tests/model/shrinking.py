@@ -20,6 +20,7 @@ def shrunk(case: Case, differs: Differs, tick: int | None) -> Case:
         return case
     case = with_bench(case, differs)
     case = fewer_ticks(case, differs, tick)
+    case = fewer_cuts(case, differs)
     case = fewer_events(case, differs)
     case = fewer_segments(case, differs)
     case = fewer_instructions(case, differs)
@@ -35,7 +36,8 @@ def with_bench(case: Case, differs: Differs) -> Case:
 
 def ended_at(case: Case, end: int) -> Case:
     events = [event for event in case.bench.events if event.tick < end]
-    return replace(case, bench=Bench(end, case.bench.fill, events))
+    cuts = [cut for cut in case.bench.cuts if cut.tick < end]
+    return replace(case, bench=Bench(end, case.bench.fill, events, cuts))
 
 
 def fewer_ticks(case: Case, differs: Differs, tick: int | None) -> Case:
@@ -43,6 +45,16 @@ def fewer_ticks(case: Case, differs: Differs, tick: int | None) -> Case:
         return case
     shorter = ended_at(case, tick + 1)
     return shorter if differs(shorter) else case
+
+
+def fewer_cuts(case: Case, differs: Differs) -> Case:
+    """Leaves out each cut that isn't needed, from the last on, since it changes the least."""
+    for cut in reversed(case.bench.cuts if case.bench else []):
+        cuts = [other for other in case.bench.cuts if other is not cut]
+        fewer = replace(case, bench=replace(case.bench, cuts=cuts))
+        if differs(fewer):
+            case = fewer
+    return case
 
 
 def fewer_events(case: Case, differs: Differs) -> Case:
