@@ -144,7 +144,7 @@ def add_event(bench: Bench, table, refusal: str) -> None:
 
 
 def add_cut(bench: Bench, table, refusal: str) -> None:
-    """Power has to be on in a cut's tick: that lies behind the ticks that the cut before left off."""
+    """A cut comes behind the ticks that the cut before left without power."""
     if not isinstance(table, dict) or set(table) != {"tick", "writes", "off"}:
         raise Refused(refusal)
     cut = Cut(table["tick"], table["writes"], table["off"])

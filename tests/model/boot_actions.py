@@ -68,6 +68,16 @@ def rewrite_pointer(rng: random.Random, code: Code) -> None:
     reset_now_and_then(rng, code, 0.4)
 
 
+def lead_out_of_fram(rng: random.Random, code: Code) -> None:
+    """A good structure in SRAM. A boot that is led there reads another, and erases."""
+    address = rng.choice((0x1C80, 0x1D00, 0x23F0))
+    for index, word in enumerate(structures.random_words(rng, code.places, 0)):
+        code.put(assembler.store(address + 2 * index, word))
+    code.put(assembler.store(POINTER_ADDRESS, address // structures.GRAIN_OF_PLACES))
+    code.put(assembler.store(SIGNATURE_ADDRESS, SIGNATURE))
+    reset_now_and_then(rng, code, 0.8)
+
+
 def reset_now_and_then(rng: random.Random, code: Code, share: float) -> None:
     """Most often a BOR, whose boot looks at what was written."""
     if rng.random() < share:
@@ -88,7 +98,7 @@ def show_what_boots(rng: random.Random, code: Code) -> None:
 
 ACTIONS = (
     (rewrite_structure, 4), (change_two_words, 2), (rewrite_signature, 1.5), (rewrite_pointer, 2),
-    (show_what_boots, 3),
+    (lead_out_of_fram, 1.5), (show_what_boots, 3),
 )
 
 

@@ -1,4 +1,4 @@
-"""What comes to the debug port about boots: structures by commands, erases, and what follows them."""
+"""What comes to the debug port about boots: structures by commands, erases and what follows."""
 
 import random
 
@@ -6,7 +6,10 @@ import actions
 import assembler
 import structures
 from assembler import absolute, immediate, two
-from debug import Command, Dump, Erase, Go, Halt, ReadWord, Reset, WriteWord
+from bench import EVENTS_IN_A_TICK
+from debug import (
+    CLOSING_ADDRESSES, CLOSING_WORD, Command, Dump, Erase, Go, Halt, ReadWord, Reset, WriteWord,
+)
 from debug_situations import (
     NO_VECTOR, PROTECTION, RESET_VECTOR, SESSIONS, Session, Targets, Timed, any_command,
 )
@@ -77,6 +80,8 @@ def erase(rng: random.Random, targets: Targets) -> list[Timed]:
         commands.append((0, rng.choice((
             Halt(), any_command(rng, targets), WriteWord(actions.WDTCTL, 0), Reset(),
         ))))
+    if rng.random() < 0.08:
+        commands += [(0, WriteWord(address, CLOSING_WORD)) for address in CLOSING_ADDRESSES]
     commands.append((0, Erase()))
     if rng.random() < 0.5:
         commands.append((0, rng.choice((
@@ -84,6 +89,24 @@ def erase(rng: random.Random, targets: Targets) -> list[Timed]:
         ))))
     commands += [(rng.randrange(1, 5), any_command(rng, targets)) for _ in range(rng.randrange(4))]
     return commands
+
+
+def write_in_a_row(rng: random.Random, targets: Targets) -> list[Timed]:
+    """Commands of one tick that write to all kinds of places, and an erase among them perhaps."""
+    vault = targets.vault
+    commands: list[Command] = []
+    for _ in range(rng.randrange(2, EVENTS_IN_A_TICK + 1)):
+        at = rng.choice((
+            0x1900, 0x1902, vault.data, vault.end, vault.first - 2, 0x1D00, 0x1F00, 0x2400, 0x1A00,
+            0x0202, 0x0160, targets.address(rng),
+        ))
+        commands.append(WriteWord(at, rng.randrange(0x10000)))
+    if rng.random() < 0.04:
+        commands[rng.randrange(len(commands))] = Erase()
+    if rng.random() < 0.3:
+        commands[rng.randrange(len(commands))] = ReadWord(targets.address(rng))
+    looks = [ReadWord(command.at) for command in commands if isinstance(command, WriteWord)]
+    return [(0, command) for command in commands] + [(1, look) for look in looks[:2]]
 
 
 def look_behind_an_erase(rng: random.Random, targets: Targets) -> list[Timed]:
@@ -136,6 +159,6 @@ def ask_in_a_boot(rng: random.Random, targets: Targets) -> list[Timed]:
 
 BOOT_SESSIONS: tuple[tuple[Session, float], ...] = (
     (look_at_what_boots, 5), (rewrite_structure, 5), (lead_elsewhere, 3), (ask_in_a_boot, 1.5),
-    (erase, 0.5), *SESSIONS,
+    (write_in_a_row, 8), (erase, 0.5), *SESSIONS,
 )
 ERASE_SESSIONS: tuple[tuple[Session, float], ...] = ((erase, 35), *BOOT_SESSIONS)

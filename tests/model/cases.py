@@ -32,6 +32,7 @@ LONG_RUN = 9000
 TIMES_FOR_PROTECTION = 3  # what is protected has to be set up first, and waits take their time
 SHARE_OF_REFUSED = 0.05
 SHARE_OF_SINGLE_COMMANDS = 0.05
+SHARE_OF_CUTS_ALONE = 0.07
 SHARE_OF_DEAD_ENDS = 0.01
 SHARE_OF_CUTS = 0.08  # where the kind of the case has none of its own
 EDGES_OF_ADDRESSES = ("0", "1048575", "1048576", "-1", "0xFFFFF", "65536")
@@ -270,6 +271,9 @@ def random_case(seed: int, index: int) -> Case:
     elif rng.random() < SHARE_OF_SINGLE_COMMANDS:
         case.kind = "single commands"
         case.refused_bench = bench_of_a_command(rng).encode()
+    elif rng.random() < SHARE_OF_CUTS_ALONE:
+        case.kind = "cuts alone"
+        case.refused_bench = bench_of_cuts(rng).encode()
     return case
 
 
@@ -415,7 +419,7 @@ def spoiled_image(rng: random.Random, file: bytes) -> bytes:
 def spoiled_bench(rng: random.Random, file: bytes) -> bytes:
     text = file.decode()
     if rng.random() < 0.6:
-        return bench_of_a_command(rng).encode()
+        return rng.choice((bench_of_a_command, bench_of_a_command, bench_of_cuts))(rng).encode()
     least = "version = 1\nend = 20\nfill = 5\n"
     event = '\n[[event]]\ntick = 0\npin = "P1.0"\nlevel = 1\n'
     one = least + event
@@ -460,6 +464,39 @@ def bench_of_a_command(rng: random.Random) -> str:
     lines = [f"{key} = {value}" for key, value in keys.items()]
     rng.shuffle(lines)
     return bench_of_event(lines)
+
+
+def bench_of_cuts(rng: random.Random) -> str:
+    """Two cuts, each with its values at the ends of their ranges, or with one thing wrong."""
+    tables = [{"tick": "1", "writes": "1", "off": "3"}]
+    key, values = rng.choice((
+        ("tick", ("0", "19", "20", "-1")), ("writes", ("0", "64", "65", "65", "-1")),
+        ("off", ("1", "10_000_000", "10_000_001", "0", "0", "-1")),
+    ))
+    tables[0][key] = rng.choice(values)
+    if rng.random() < 0.4:
+        tables = [{"tick": "1", "writes": "64", "off": "3"}]
+        tables.append({"tick": rng.choice("34567"), "writes": "0", "off": "1"})
+    table = rng.choice(tables)
+    chance = rng.random()
+    if chance < 0.05:
+        del table[rng.choice(list(table))]
+    elif chance < 0.15:
+        table[rng.choice(("on", "at", "level", "number"))] = "0"
+    elif chance < 0.2:
+        table[rng.choice(list(table))] = rng.choice(("true", "1.0", '"1"', "[]", "{}"))
+    inline = [
+        "{ " + ", ".join(f"{key} = {value}" for key, value in table.items()) + " }"
+        for table in tables
+    ]
+    if rng.random() < 0.1:
+        inline = [rng.choice(("1", "[]", '"cut"', "{}"))]
+    if rng.random() < 0.1:
+        inline = [f"{{ tick = {2 * index}, writes = 0, off = 1 }}" for index in
+                  range(rng.choice((999, 1000, 1001)))]
+    cuts = rng.choice((f"cut = [{', '.join(inline)}]",) * 15 + ("cut = {}", "cut = 1"))
+    end = 20 if len(inline) < 3 else 2100
+    return "\n".join(("version = 1", f"end = {end}", cuts)) + "\n"
 
 
 def bench_of_event(lines: Sequence[str]) -> str:

@@ -19,6 +19,7 @@ import mistakes_of_debug
 import mistakes_of_dma
 import mistakes_of_encapsulation
 import mistakes_of_instructions
+import mistakes_of_power
 import mistakes_of_protection
 import mistakes_of_timers
 import mistakes_of_units
@@ -40,6 +41,7 @@ ALL_MISTAKES = (
     *mistakes_of_instructions.MISTAKES, *mistakes_of_units.MISTAKES,
     *mistakes_of_timers.MISTAKES, *mistakes_of_dma.MISTAKES, *mistakes_of_protection.MISTAKES,
     *mistakes_of_encapsulation.MISTAKES, *mistakes_of_debug.MISTAKES,
+    *mistakes_of_power.MISTAKES,
 )
 
 

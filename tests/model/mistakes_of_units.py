@@ -307,7 +307,8 @@ TICKS = (
             "        self.requests.clear()\n", "        self.requests.discard(cause)\n"),
     Mistake("RST stands behind PIN", "chip.py",
             "        self.compare_levels()\n        self.number += 1\n",
-            "        resets = [line for line in self.lines if line.split()[1] in (\"RST\", \"DEAD\")]\n"
+            "        resets = [line for line in self.lines\n"
+            "                  if line.split()[1] in (\"RST\", \"DEAD\")]\n"
             "        self.lines = [line for line in self.lines if line not in resets]\n"
             "        self.compare_levels()\n        self.lines += resets\n"
             "        self.number += 1\n"),

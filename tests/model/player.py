@@ -6,19 +6,20 @@ ticks these are is known only while the run is played, since each cut changes wh
 
 import random
 from collections import Counter
-from collections.abc import Callable, Sequence
+from collections.abc import Sequence
 from dataclasses import dataclass
 
 import boot_sessions
 from bench import EVENTS_IN_A_TICK, PINS, Bench, Event, PinLevel
-from boot import Mark, Place
+from boot import FIRST_WIPED, Mark, Place
 from bus import Agent
 from chip import Chip
-from debug import Dump, Erase, Go, Halt, ReadRegister, ReadWord, Reset
+from debug import Dump, Erase, Go, Halt, ReadRegister, ReadWord, Reset, WriteWord
 from debug_situations import Session, Targets, Timed
 from interrupts import CPUOFF_BIT, SR
-from memory import ADDRESS_MASK
+from memory import ADDRESS_MASK, is_fram
 from power import OFF, ON, Cut, Power
+from protection import Place as PlaceOfViolation
 
 ALL_PINS = tuple(PINS.values())
 LONGEST_RUN = 80_000
@@ -31,13 +32,19 @@ CHANCE_AT_PLACE = {
     Place.MARK_EMPTY: 0.4, Place.DONE: 0.1,
 }
 CHANCE_AT_COMMAND = {Erase: 0.25, Reset: 0.12, Halt: 0.05}
-CHANCE_AT_FIRST_WRITE = {Agent.PROCESSOR: 0.004, Agent.ENTRY: 0.02, Agent.DMA: 0.02,
-                         Agent.DEBUG: 0.03}
-CHANCE_AT_NEXT_WRITE = {Agent.PROCESSOR: 0.03, Agent.ENTRY: 0.08, Agent.DMA: 0.02,
-                        Agent.DEBUG: 0.03}
+# Of writes to FRAM, or of those behind another one of their tick. Others leave nothing behind.
+CHANCE_AT_WRITE = {Agent.PROCESSOR: 0.06, Agent.ENTRY: 0.12, Agent.DMA: 0.15, Agent.DEBUG: 0.06}
+CHANCE_AT_OTHER_WRITE = 0.002
+CHANCE_BEHIND_THE_DEBUGGER = 0.4  # where the owner of the bus writes in the tick of its writes
+CHANCE_AT_VIOLATION = 0.01
+CHANCE_AT_THE_END_OF_AN_ERASE = 0.3
+USUAL_PACE = 100
+SHARE_OF_MEDDLING = 0.7
+PLACES_OF_MEDDLING = (0x1D00, 0x1D02, 0x1900, 0x2400, 0x0160)
 NUMBERS = (0, 0, 1, 1, 2, 3, 4, 9, 17, 33, 64)
 OFFS = (1, 1, 1, 1, 2, 3, 4, 5, 8, 31, 32, 33)
-TICKS_BEHIND_POWER = (3, 3, 4, 6, 7, 10, 11, 12, 13, 16)
+TICKS_BEHIND_POWER = (3, 4, 6, 7, 10, 11, 11, 12, 12, 13, 16)
+LOOKS_AT_REGISTERS = (0x05A2, 0x019C, 0x019E, 0x015C, 0x0130, 0x0200, 0x0204, 0x05AA)
 
 
 @dataclass(frozen=True)
@@ -77,8 +84,11 @@ class Player:
         self.chip = Chip(store, bench.fill, Counter())
         self.writes = self.chip.writes
         self.written: list[int] = []  # where, in this tick
-        self.write_of_bus: Callable[[int, str, int], None] = self.chip.bus.write
+        self.debugger_wrote = False
+        self.write_of_bus = self.chip.bus.write
         self.chip.bus.write = self.write
+        self.note_of_violation = self.chip.protection.note
+        self.chip.protection.note = self.note
         self.special_wipes = {address & ~1 for address in self.places_of_wipes()}
 
     def places_of_wipes(self) -> list[int]:
@@ -91,7 +101,10 @@ class Player:
         tick = 0
         while tick < self.end:
             self.written.clear()
+            self.debugger_wrote = False
             was_booted = self.chip.is_booted()
+            if was_booted and self.chip.busy == 0 and self.may_cut():
+                self.meddle(tick)
             self.chip.tick(self.events.get(tick, []), self.power(tick))
             if self.writes.end_in_a_cut():
                 self.note_cut(tick)
@@ -101,6 +114,13 @@ class Player:
         events = [event for tick in sorted(self.events) for event in self.events[tick]]
         kept = [event for event in events if event.tick < self.end]
         return Bench(self.end, self.fill, kept, self.cuts)
+
+    def meddle(self, tick: int) -> None:
+        """Writes of the debugger in a tick in which the owner of the bus may write too."""
+        if self.rng.random() < SHARE_OF_MEDDLING / self.temper.pace:
+            for _ in range(self.rng.randrange(1, 4)):
+                at = self.rng.choice((*PLACES_OF_MEDDLING, self.targets.address(self.rng)))
+                self.plan(tick, [(0, WriteWord(at, self.rng.randrange(0x10000)))])
 
     # Whether a cut comes
 
@@ -119,27 +139,43 @@ class Player:
         place = chip.boot.place
         if place is Place.WIPE and chip.boot.wiped_next in self.special_wipes:
             return 0.03 * self.temper.boots
+        if place is Place.DONE and chip.boot.wiped_next != FIRST_WIPED:
+            return CHANCE_AT_THE_END_OF_AN_ERASE * self.temper.boots
         if place is not Place.NONE:
             return CHANCE_AT_PLACE[place] * self.temper.boots
         for event in self.events.get(tick, []):
             if type(event.act) in CHANCE_AT_COMMAND:
                 return CHANCE_AT_COMMAND[type(event.act)]
         if chip.debug.halted or chip.dead or chip.registers.get(SR) & CPUOFF_BIT:
-            return 0.2 / self.temper.pace
+            return 0.1 / self.temper.pace
         if chip.debug.halt_is_pending or chip.dma.second_tick or chip.nmi.stands():
-            return 0.03
-        return 0.4 / self.temper.pace
+            return 0.02
+        return 0.15 / self.temper.pace
 
     def write(self, at: int, size: str, value: int) -> None:
-        """Stands for that of the bus. It may find that this tick is one with a cut."""
-        if not self.writes.end_in_a_cut() and self.may_cut():
-            first = self.writes.count == 0
-            chances = CHANCE_AT_FIRST_WRITE if first else CHANCE_AT_NEXT_WRITE
-            chance = chances[self.chip.bus.agent] * 100 / self.temper.pace
-            if self.rng.random() < chance:
-                self.writes.whole = self.writes.count
+        """Stands for that of the bus. It may find that this is the tick of a cut."""
+        agent = self.chip.bus.agent
+        chance = CHANCE_AT_OTHER_WRITE
+        if self.debugger_wrote and agent is not Agent.DEBUG:
+            chance = CHANCE_BEHIND_THE_DEBUGGER
+        elif self.writes.count or is_fram(at):
+            chance = CHANCE_AT_WRITE[agent]
+        self.cut_here(chance)
+        self.debugger_wrote |= agent is Agent.DEBUG
         self.written.append(at & ADDRESS_MASK)
         self.write_of_bus(at, size, value)
+
+    def note(self, place: PlaceOfViolation) -> None:
+        """Stands for that of protection, in the same way."""
+        self.cut_here(CHANCE_AT_VIOLATION)
+        self.note_of_violation(place)
+
+    def cut_here(self, chance: float) -> None:
+        """Now and then the writes behind those that were made are absent, or all but the next."""
+        if self.writes.end_in_a_cut() or not self.may_cut():
+            return
+        if self.rng.random() < chance * USUAL_PACE / self.temper.pace:
+            self.writes.whole = self.writes.count + (self.rng.random() < 0.4)
 
     # What follows
 
@@ -156,19 +192,29 @@ class Player:
     def look_back(self) -> None:
         """Commands behind the next boot, which read where the writes of this tick went."""
         rng = self.rng
-        for _ in range(rng.choice((0, 1, 2, 2, 4))):
-            at = self.targets.address(rng)
-            if self.written and rng.random() < 0.75:
-                at = rng.choice(self.written) + rng.choice((0, 0, 0, -2, 2, 1))
-            at &= ADDRESS_MASK
+        for _ in range(rng.choice((0, 1, 2, 3, 5))):
+            at = self.place_of_a_look() & ADDRESS_MASK
             look = ReadWord(at) if rng.random() < 0.8 else Dump(at, rng.choice((1, 4, 16)))
             self.plan(self.tick_of_power, [(rng.choice(TICKS_BEHIND_POWER), look)])
         if rng.random() < 0.1:
             tick = rng.choice(TICKS_BEHIND_POWER)
+            level = PinLevel(rng.choice(ALL_PINS), rng.randrange(2))
             self.plan(self.tick_of_power, [
-                (rng.randrange(4), PinLevel(rng.choice(ALL_PINS), rng.randrange(2))), (tick, Halt()),
+                (rng.randrange(4), level), (tick, Halt()),
                 (tick + 2, ReadRegister(rng.randrange(16))), (tick + 3, Go()),
             ])
+
+    def place_of_a_look(self) -> int:
+        """Most often that of a write about the last whole one."""
+        chance = self.rng.random()
+        if chance < 0.1:
+            return self.rng.choice(LOOKS_AT_REGISTERS)
+        if chance < 0.2 or not self.written:
+            return self.targets.address(self.rng)
+        if chance < 0.4:
+            return self.rng.choice(self.written) + self.rng.choice((0, 0, -2, 2, 1))
+        index = self.writes.whole + self.rng.choice((-1, 0, 0, 1))
+        return self.written[min(max(index, 0), len(self.written) - 1)]
 
     def follow_boot(self, tick: int) -> None:
         boot = self.chip.boot

@@ -9,6 +9,7 @@ import random
 import actions
 import assembler
 import dma_actions
+import encapsulation_actions
 import protection_situations
 from assembler import absolute, immediate, indirect, register, two
 from boot_actions import show_word
@@ -120,6 +121,28 @@ def be_interrupted(rng: random.Random, code: Code) -> None:
     show_target(rng, code, stack - 2)
 
 
+def write_over_a_border(rng: random.Random, code: Code) -> None:
+    """Several writes, of which some are refused by the area and the others are made."""
+    vault = code.places.vault
+    if not code.places.structures or rng.random() < 0.2:
+        encapsulation_actions.encapsulate(rng, code, (vault.first, vault.end), lock_share=0.2)
+    number = rng.randrange(4, 11)
+    new_value(rng, code, number)
+    border = rng.choice((vault.first, vault.end))
+    kind = rng.randrange(3)
+    if kind == 0:
+        target = border - 2
+        code.put([0x0060 | number << 8 | target >> 16, target & 0xFFFF])
+    elif kind == 1:
+        code.put(far("ADD", (immediate(rng.randrange(1, 0x10000)), rng.randrange(1, 16)),
+                     at(border - 2), 20))
+    else:
+        code.put(assembler.set_register(SP, border + 2 * rng.randrange(1, 9)))
+        code.put([0x1400 | rng.choice((0, 0x0100)) | rng.randrange(4, 16) << 4 | 10])
+        code.put(assembler.set_register(SP, USUAL_STACK))
+    show_target(rng, code, border - 2 * rng.randrange(3))
+
+
 # Rows of writes
 
 def change_word(rng: random.Random, code: Code) -> None:
@@ -171,8 +194,8 @@ def write_twice(rng: random.Random, code: Code) -> None:
 
 
 ACTIONS = (
-    (store_20_bits, 4), (push_many, 3), (push_and_call, 2.5), (be_interrupted, 2.5),
-    (change_word, 2), (transfer, 2.5), (keep_a_log, 1.5), (write_twice, 1),
+    (store_20_bits, 4), (write_over_a_border, 2.5), (push_many, 3), (push_and_call, 2.5), (be_interrupted, 2.5),
+    (change_word, 2), (transfer, 4), (keep_a_log, 1.5), (write_twice, 1),
 )
 
 

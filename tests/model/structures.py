@@ -67,7 +67,7 @@ def wrong_check(rng: random.Random, words: list[int]) -> int:
     wiped = list(words)
     wiped[rng.randrange(3)] = 0xFFFF
     other = rng.choice((
-        right ^ 1 << rng.randrange(16), right ^ 0xFFFF, right_check(wiped), right_check(wiped),
+        right ^ 1 << rng.randrange(16), right ^ 1 << rng.randrange(6), right ^ 0xFFFF, right_check(wiped), right_check(wiped),
         ~sum(words) & 0xFFFF, -sum(words) & 0xFFFF, 0xFFFF, 0,
     ))
     return other if other != right else right ^ 1
@@ -101,7 +101,7 @@ def write_structures(
         third = rng.randrange(0x10000)
         put_words(program, places.structures[0],
                   [CLOSING_WORD, CLOSING_WORD, third, third ^ 0xFFFF])
-    if rng.random() < 0.9:
+    if rng.random() < 0.87:
         signature = SIGNATURE if rng.random() < 0.96 else rng.choice((0xAAAB, 0xAA2A, 0x00AA))
         program.single_words[SIGNATURE_ADDRESS] = signature
     program.single_words[POINTER_ADDRESS] = places.structures[0] // GRAIN_OF_PLACES
