@@ -135,7 +135,8 @@ power_at-MayFollow cuts tick =
     by_powers (power_at cuts tick) (power_at cuts (tick + 1)) (off_never_follows_on cuts tick)
 
 -- the powers of two ticks, one behind the other
-power-MayFollow : (bench : Stimulus) (chip : State) → MayFollow (power_of bench chip) (power_of bench (ticked bench chip))
+power-MayFollow :
+    (bench : Stimulus) (chip : State) → MayFollow (power_of bench chip) (power_of bench (ticked bench chip))
 unfolding ticked
 power-MayFollow bench chip = power_at-MayFollow bench.cuts chip.tick
 

@@ -164,7 +164,8 @@ step-OnlyMemory (Wipe at) keep part is = wiped-OnlyMemory at part is.0 is.1
 step-OnlyMemory place keep part is = record { units = refl; kept = refl; noted = refl }
 
 -- and so of the chip's step
-pub boot_run-OnlyMemory : (place : Place) (chip : State) → IsPlace place → OnlyMemory chip.bus (boot_run place chip).part
+pub boot_run-OnlyMemory :
+    (place : Place) (chip : State) → IsPlace place → OnlyMemory chip.bus (boot_run place chip).part
 unfolding boot_run
 boot_run-OnlyMemory place chip is =
     let only : OnlyMemory (begun chip.bus) (run_of place chip.keep (begun chip.bus)).part =

@@ -20,6 +20,7 @@ use Rattle.chip_core.specs.Phase.{is_up}
 use Rattle.chip_core.specs.State.{State}
 use Rattle.chip_core.specs.Tick.{after_bor, after_cause, after_puc, behind_tick, cut, reset, taken_cause}
 use Rattle.release_log.specs.Facts.{FitsChip, IsSound, IsUnpowered}
+use Rattle.release_log.specs.Sound.{DEBUGGER}
 use Rattle.release_log.proofs.Registers.{with_register-Are}
 use Rattle.release_log.proofs.Requests.{debugger_comes_first}
 use Rattle.release_log.proofs.Running.{IsRunning}
@@ -126,7 +127,9 @@ unerased : (chip : State) → IsRunning chip → is_bor_taken (taken_cause chip)
 unfolding is_bor_taken
 unerased chip is no_bor =
     mark-unerased chip.keep.mark is.marked (λ marked.
-    true-false (sym (ap is_bor_taken (debugger_comes_first.taken (requests chip.bus) is.high (is.erasing marked))) ∙ no_bor))
+    let debugger : taken_cause chip ≡ Some DEBUGGER =
+    debugger_comes_first.taken (requests chip.bus) is.high (is.erasing marked) in
+    true-false (sym (ap is_bor_taken debugger) ∙ no_bor))
 
 pub after_bor-IsEnded :
     (cause : ℕ) (chip : State) → chip.powered ≡ true → chip.bus.noted ≡ 0 → length chip.bus.memory ≡ memory_size →
@@ -204,12 +207,15 @@ pub record IsCuttable (chip : State) : Type 0 where
 pub running-IsCuttable : (chip : State) → IsRunning chip → IsCuttable chip
 running-IsCuttable chip is = record { marked = is.marked; borders = settled-HasBorders chip.bus is.settled }
 
-chosen-twice : (test : Bool) (fill byte again : ℕ) → again ≡ (if test then fill else byte) → (if test then fill else again) ≡ (if test then fill else byte)
+chosen-twice :
+    (test : Bool) (fill byte again : ℕ) → again ≡ (if test then fill else byte) →
+    (if test then fill else again) ≡ (if test then fill else byte)
 chosen-twice true fill byte again e = refl
 chosen-twice false fill byte again e = e
 
 -- SRAM that is filled is as it was
-pub sram_filled-twice : (fill : ℕ) (memory : List ℕ) → sram_filled fill (sram_filled fill memory) ≡ sram_filled fill memory
+pub sram_filled-twice :
+    (fill : ℕ) (memory : List ℕ) → sram_filled fill (sram_filled fill memory) ≡ sram_filled fill memory
 sram_filled-twice fill memory =
     let byte : ℕ → ℕ = λ at. if is_sram at then fill else slice_index memory at in
     same_memory (λ at. if is_sram at then fill else slice_index (sram_filled fill memory) at) byte

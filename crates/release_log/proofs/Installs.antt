@@ -15,7 +15,6 @@ use Rattle.boot_code.specs.Place.{Place, Structure}
 use Rattle.boot_code.specs.Boot.{Stepped, borders_of, run_of}
 use Rattle.boot_code.specs.Facts.{AreInstalled, EndsWell}
 use Rattle.boot_code.proofs.Fitting.{step_ends_well}
-use Rattle.bus_fabric.specs.Fabric.{tick_begun}
 use Rattle.dma_unit.specs.Transfers.{passed}
 use Rattle.power_schedule.specs.declared.powers.Power.{Power}
 use Rattle.power_schedule.specs.declared.powers.Power.TheVariants.{On, Cut, Off}
@@ -32,27 +31,32 @@ use Rattle.release_log.specs.Boots.{BootInstalls, IsInstalled, encapsulation_of}
 use Rattle.release_log.specs.Facts.{IsSound, MayBeOff}
 use Rattle.release_log.proofs.Ending.{true-false}
 use Rattle.release_log.proofs.Booting.{IsBooting}
-use Rattle.release_log.proofs.Kept.{Boots, IsOn, Runs, booting-uncut, booting-unup, events-IsBooting, events-budget, off_events-powered, passed-IsBooting, powered_on-IsOn, powered_on-budget, ticked-by, ticked_by}
+use Rattle.release_log.proofs.Kept.{Boots, IsOn, Runs, began, booting-uncut, booting-unup, events-IsBooting, events-budget, off_events-powered, passed-IsBooting, powered_on-IsOn, powered_on-budget, ticked-by, ticked_by}
 
 -- ---- registers
 
 -- what a register keeps it keeps again
-installed-same : (words : Structure) → installed (borders_of words).c0 (borders_of words).b2 (borders_of words).b1 ≡ encapsulation_of words
+installed-same :
+    (words : Structure) →
+    installed (borders_of words).c0 (borders_of words).b2 (borders_of words).b1 ≡ encapsulation_of words
 unfolding borders_of
 installed-same words =
     let made : ℕ → ℕ → ℕ → Encap = λ c0 b2 b1. record { mpuipc0 = c0; mpuipsegb2 = b2; mpuipsegb1 = b1 } in
     let again : (word : ℕ) → word / 64 * 64 / 64 * 64 ≡ word / 64 * 64 = λ word. omega arith in
-    ap (λ c0. made c0 (words.second_border / 64 * 64 / 64 * 64) (words.first_border / 64 * 64 / 64 * 64))
-    (and_assoc 0xE0 words.control 0xE0)
-    ∙ ap (λ b2. made (bit_and words.control 0xE0) b2 (words.first_border / 64 * 64 / 64 * 64)) (again words.second_border)
-    ∙ ap (made (bit_and words.control 0xE0) (words.second_border / 64 * 64)) (again words.first_border)
+    let control = bit_and words.control 0xE0 in
+    let second = words.second_border / 64 * 64 in
+    let first = words.first_border / 64 * 64 in
+    ap (λ c0. made c0 (second / 64 * 64) (first / 64 * 64)) (and_assoc 0xE0 words.control 0xE0)
+    ∙ ap (λ b2. made control b2 (first / 64 * 64)) (again words.second_border)
+    ∙ ap (made control second) (again words.first_border)
 
 -- the registers of borders
 registers_by : Borders → Encap
 registers_by borders = installed borders.c0 borders.b2 borders.b1
 
 ended-IsInstalled :
-    (borders : Borders) (chip : State) → AreInstalled borders chip.keep chip.bus.memory → IsInstalled (boot_ended borders chip)
+    (borders : Borders) (chip : State) → AreInstalled borders chip.keep chip.bus.memory →
+    IsInstalled (boot_ended borders chip)
 unfolding registers_by
 ended-IsInstalled borders chip are = record {
   saved = λ saved. ap registers_by (are.saved saved) ∙ installed-same _;
@@ -108,18 +112,16 @@ on-InBoot chip (Runs is) down =
 on-InBoot chip (Boots place is) down = At place is
 
 powered_on-unup :
-    (budget : Option ℕ) (chip : State) → is_up chip ≡ false →
-    is_up (powered_on (record chip { bus = tick_begun budget chip.bus })) ≡ false
+    (budget : Option ℕ) (chip : State) → is_up chip ≡ false → is_up (powered_on (began budget chip)) ≡ false
 powered_on-unup budget chip down =
-    let began : State = record chip { bus = tick_begun budget chip.bus } in
-    either_holds (λ (now : State). is_up now ≡ false) chip.powered began
-    (record (after_bor POWER_ON began) { powered = true }) down refl
+    either_holds (λ (now : State). is_up now ≡ false) chip.powered (began budget chip)
+    (record (after_bor POWER_ON (began budget chip)) { powered = true }) down refl
 
 pub powered_on-InBoot :
     (budget : Option ℕ) (chip : State) → IsSound chip → is_up chip ≡ false →
-    InBoot (powered_on (record chip { bus = tick_begun budget chip.bus }))
+    InBoot (powered_on (began budget chip))
 powered_on-InBoot budget chip is down =
-    on-InBoot (powered_on (record chip { bus = tick_begun budget chip.bus })) (powered_on-IsOn budget chip is)
+    on-InBoot (powered_on (began budget chip)) (powered_on-IsOn budget chip is)
     (powered_on-unup budget chip down)
 
 -- ---- the tick
@@ -146,7 +148,8 @@ unfolding stages cut
 cut-unup writes chip = refl
 
 off-unup-behind :
-    (events : List Event) (chip : State) → chip.powered ≡ false → is_up (stages Off (after_events events chip)).after ≡ false
+    (events : List Event) (chip : State) → chip.powered ≡ false →
+    is_up (stages Off (after_events events chip)).after ≡ false
 unfolding stages timed owned
 off-unup-behind events chip off =
     ap (λ powered. powered && is_none (after_events events chip).boot) (off_events-powered events chip off)

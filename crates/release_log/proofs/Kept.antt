@@ -61,6 +61,10 @@ booting-unup place chip boot = ap (λ boot. chip.powered && is_none boot) boot �
 
 -- ---- power comes on, or stays
 
+-- a tick begins, with its budget
+abbrev pub began : Option ℕ → State → State
+began budget chip = record chip { bus = tick_begun budget chip.bus }
+
 -- a chip with power, as its tick begins
 pub data IsOn (chip : State) : Type 0 where
   Runs : IsRunning chip → IsOn chip
@@ -89,7 +93,7 @@ no_causes-asked cause = none-asked 65 cause
 
 begun-IsRunning :
     (budget : Option ℕ) (chip : State) → IsSound chip → chip.powered ≡ true → chip.boot ≡ None →
-    IsRunning (record chip { bus = tick_begun budget chip.bus })
+    IsRunning (began budget chip)
 begun-IsRunning budget chip is powered boot =
     let unerased : is_unerased chip.keep.mark ≡ true =
     subst (λ boot. FitsChip boot chip.keep chip.bus.memory) boot is.fit in
@@ -108,7 +112,7 @@ begun-IsRunning budget chip is powered boot =
 
 begun-IsBooting :
     (budget : Option ℕ) (place : Place) (chip : State) → IsSound chip → chip.powered ≡ true → chip.boot ≡ Some place →
-    IsBooting place (record chip { bus = tick_begun budget chip.bus })
+    IsBooting place (began budget chip)
 begun-IsBooting budget place chip is powered boot = record {
   powered = powered;
   boot = boot;
@@ -122,7 +126,7 @@ begun-IsBooting budget place chip is powered boot = record {
 
 came-IsBooting :
     (budget : Option ℕ) (chip : State) → IsSound chip →
-    IsBooting Start (record (after_bor POWER_ON (record chip { bus = tick_begun budget chip.bus })) { powered = true })
+    IsBooting Start (record (after_bor POWER_ON (began budget chip)) { powered = true })
 came-IsBooting budget chip is = record {
   powered = refl;
   boot = refl;
@@ -135,30 +139,26 @@ came-IsBooting budget chip is = record {
 }
 
 pub powered_on-IsOn :
-    (budget : Option ℕ) (chip : State) → IsSound chip → IsOn (powered_on (record chip { bus = tick_begun budget chip.bus }))
+    (budget : Option ℕ) (chip : State) → IsSound chip → IsOn (powered_on (began budget chip))
 powered_on-IsOn budget chip is = by_power chip.powered refl
   where
-    began : State
-    began = record chip { bus = tick_begun budget chip.bus }
-
-    by_boot : (boot : Option Place) → chip.powered ≡ true → chip.boot ≡ boot → IsOn began
+    by_boot : (boot : Option Place) → chip.powered ≡ true → chip.boot ≡ boot → IsOn (began budget chip)
     by_boot None powered boot = Runs (begun-IsRunning budget chip is powered boot)
     by_boot (Some place) powered boot = Boots place (begun-IsBooting budget place chip is powered boot)
 
     by_power :
         (test : Bool) → chip.powered ≡ test →
-        IsOn (if test then began else record (after_bor POWER_ON began) { powered = true })
+        IsOn (if test then began budget chip else record (after_bor POWER_ON (began budget chip)) { powered = true })
     by_power true powered = by_boot chip.boot powered refl
     by_power false powered = Boots Start (came-IsBooting budget chip is)
 
 -- the budget of the tick stands where power comes on
 pub powered_on-budget :
     (budget : Option ℕ) (chip : State) →
-    (powered_on (record chip { bus = tick_begun budget chip.bus })).bus.budget ≡ budget
+    (powered_on (began budget chip)).bus.budget ≡ budget
 powered_on-budget budget chip =
-    let began : State = record chip { bus = tick_begun budget chip.bus } in
-    either_holds (λ (now : State). now.bus.budget ≡ budget) chip.powered began
-    (record (after_bor POWER_ON began) { powered = true }) refl refl
+    either_holds (λ (now : State). now.bus.budget ≡ budget) chip.powered (began budget chip)
+    (record (after_bor POWER_ON (began budget chip)) { powered = true }) refl refl
 
 -- ---- a boot's tick
 
@@ -258,7 +258,9 @@ running-turn chip is =
 
 -- ---- the stages behind the events
 
-uncut-IsEnded : (events : List Event) (chip : State) → chip.bus.budget ≡ None → IsOn chip → IsEnded (stages On (after_events events chip)).after
+uncut-IsEnded :
+    (events : List Event) (chip : State) → chip.bus.budget ≡ None → IsOn chip →
+    IsEnded (stages On (after_events events chip)).after
 unfolding stages timed
 uncut-IsEnded events chip uncut (Runs is) = reset-IsEnded _ (running-turn _ (events-IsRunning events chip is))
 uncut-IsEnded events chip uncut (Boots place is) =
@@ -287,7 +289,7 @@ unfolding stages timed owned
 off-stages chip = refl
 
 begun-unpowered :
-    (budget : Option ℕ) (chip : State) → IsUnpowered chip → IsUnpowered (record chip { bus = tick_begun budget chip.bus })
+    (budget : Option ℕ) (chip : State) → IsUnpowered chip → IsUnpowered (began budget chip)
 begun-unpowered budget chip is = record {
   registers = is.registers;
   sram = is.sram;
@@ -312,7 +314,8 @@ begun_off-IsEnded chip is = record {
   fit = is.fit;
 }
 
-off_event-IsEnded : (act : EventAct) (chip : State) → chip.powered ≡ false → IsEnded chip → IsEnded (after_event act chip)
+off_event-IsEnded :
+    (act : EventAct) (chip : State) → chip.powered ≡ false → IsEnded chip → IsEnded (after_event act chip)
 off_event-IsEnded (Pin port bit level) chip off is = record {
   unrequested = is.unrequested;
   quiet = is.quiet;

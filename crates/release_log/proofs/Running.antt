@@ -215,7 +215,9 @@ reset_by-GoesOn : (debug : Debug) (chip : State) → GoesOn chip (reset_by debug
 reset_by-GoesOn debug chip =
     bus-GoesOn chip _ (asked-KeepsFacts (debug_cause debug) chip.bus (debug_cause-IsHigh debug)) (λ quiet. quiet)
 
-set-asked : (requested : List Bool) (cause : ℕ) → cause < length requested → is_asked (slice_set requested cause true) cause ≡ true
+set-asked :
+    (requested : List Bool) (cause : ℕ) → cause < length requested →
+    is_asked (slice_set requested cause true) cause ≡ true
 set-asked [] cause few = absurd (omega arith)
 set-asked (x ∷ requested) zero few = refl
 set-asked (x ∷ requested) (suc cause) few = set-asked requested cause (omega arith)
@@ -226,10 +228,13 @@ reset_by-asked :
     is_asked (requests (reset_by debug chip).bus) DEBUGGER ≡ true
 reset_by-asked debug chip is resets =
     let count : length (requests chip.bus) ≡ 65 = is.count in
-    subst (λ reset. is_asked (with_cause (if reset then Some DEBUG_RESET else None) (requests chip.bus)) DEBUGGER ≡ true) (sym resets)
-    (set-asked (requests chip.bus) DEBUGGER (omega arith))
+    let asks : Bool → Type 0 = λ reset.
+    is_asked (with_cause (if reset then Some DEBUG_RESET else None) (requests chip.bus)) DEBUGGER ≡ true in
+    subst asks (sym resets) (set-asked (requests chip.bus) DEBUGGER (omega arith))
 
-marked-IsRunning : (chip : State) → IsRunning chip → is_asked (requests chip.bus) DEBUGGER ≡ true → IsRunning (with_mark ERASING chip)
+marked-IsRunning :
+    (chip : State) → IsRunning chip → is_asked (requests chip.bus) DEBUGGER ≡ true →
+    IsRunning (with_mark ERASING chip)
 marked-IsRunning chip is resets = record {
   powered = is.powered;
   booted = is.booted;
@@ -284,8 +289,8 @@ units-KeepsFacts part units requested encap = record {
 
 event-IsRunning : (act : EventAct) (chip : State) → IsRunning chip → IsRunning (after_event act chip)
 event-IsRunning (Pin port bit level) chip is =
-    GoesOn-IsRunning chip _
-    (bus-GoesOn chip _ (units-KeepsFacts chip.bus (units_driven port bit level chip.bus.units) refl refl) (λ quiet. quiet)) is
+    let driven = units_driven port bit level chip.bus.units in
+    GoesOn-IsRunning chip _ (bus-GoesOn chip _ (units-KeepsFacts chip.bus driven refl refl) (λ quiet. quiet)) is
 event-IsRunning (Told what) chip is = command-IsRunning what chip is
 
 pub events-IsRunning : (events : List Event) (chip : State) → IsRunning chip → IsRunning (after_events events chip)
@@ -463,8 +468,8 @@ processor_turn-GoesOn chip =
 
 pub with_dma-GoesOn : (change : Dma → Dma) (chip : State) → GoesOn chip (with_dma change chip)
 with_dma-GoesOn change chip =
-    bus-GoesOn chip _ (units-KeepsFacts chip.bus (record (chip.bus.units) { dma = change (chip.bus.units).dma }) refl refl)
-    (λ quiet. quiet)
+    let changed : Units = record (chip.bus.units) { dma = change (chip.bus.units).dma } in
+    bus-GoesOn chip _ (units-KeepsFacts chip.bus changed refl refl) (λ quiet. quiet)
 
 moved-GoesOn : (move : Option Move) (chip : State) → TurnGoesOn chip (moved move chip)
 moved-GoesOn (Some move) chip =
@@ -496,4 +501,5 @@ unfolding owned
 owned-GoesOn true channel chip = rests-GoesOn chip chip.busy chip.halted chip.pending false
 owned-GoesOn false (Some channel) chip = transfer_turn-GoesOn channel chip
 owned-GoesOn false None chip =
-    GoesOn-then chip (with_dma passed chip) _ (with_dma-GoesOn passed chip) (processor_turn-GoesOn (with_dma passed chip))
+    let rested = with_dma passed chip in
+    GoesOn-then chip rested _ (with_dma-GoesOn passed chip) (processor_turn-GoesOn rested)

@@ -11,7 +11,6 @@ use Rattle.boot_code.specs.declared.boots.BootStep.{BootStep}
 use Rattle.boot_code.specs.declared.boots.BootStep.TheVariants.{Going, Done}
 use Rattle.boot_code.specs.Place.{Place}
 use Rattle.boot_code.specs.Boot.{Stepped, boot_step, run_of}
-use Rattle.bus_fabric.specs.Fabric.{tick_begun}
 use Rattle.chip_words.specs.declared.accesses.Agent.TheVariants as by
 use Rattle.dma_unit.specs.Transfers.{passed}
 use Rattle.power_schedule.specs.declared.powers.Power.{Power}
@@ -33,7 +32,7 @@ use Rattle.release_log.specs.Sound.{KeepsFacts}
 use Rattle.release_log.proofs.Running.{step-KeepsFacts}
 use Rattle.release_log.proofs.Ending.{true-false}
 use Rattle.release_log.proofs.Booting.{IsBooting, OnlyMemory, fits-IsPlace, step-OnlyMemory}
-use Rattle.release_log.proofs.Kept.{booting-cut, booting-uncut, booting-unup, command-unup, events-IsBooting, events-budget, passed-IsBooting, powered_on-budget, ticked-by, ticked_by}
+use Rattle.release_log.proofs.Kept.{began, booting-cut, booting-uncut, booting-unup, command-unup, events-IsBooting, events-budget, passed-IsBooting, powered_on-budget, ticked-by, ticked_by}
 use Rattle.release_log.proofs.Installs.{At, InBoot, powered_on-InBoot}
 
 -- two chips keep the same bytes secret
@@ -100,10 +99,10 @@ unup-events-KeepsSame (event ∷ events) chip down =
 
 -- power that comes on leaves them
 powered_on-KeepsSame :
-    (budget : Option ℕ) (chip : State) → KeepsSame chip (powered_on (record chip { bus = tick_begun budget chip.bus }))
+    (budget : Option ℕ) (chip : State) → KeepsSame chip (powered_on (began budget chip))
 powered_on-KeepsSame budget chip =
-    let began : State = record chip { bus = tick_begun budget chip.bus } in
-    either_holds (KeepsSame chip) chip.powered began (record (after_bor POWER_ON began) { powered = true }) refl refl
+    either_holds (KeepsSame chip) chip.powered (began budget chip)
+    (record (after_bor POWER_ON (began budget chip)) { powered = true }) refl refl
 
 -- ---- the tick
 
@@ -135,7 +134,8 @@ cut-KeepsSame writes events chip (At place is) budget =
     ∙ unup-events-KeepsSame events chip (booting-unup place chip is.boot)
 
 off-KeepsSame :
-    (events : List Event) (chip : State) → is_up chip ≡ false → KeepsSame chip (stages Off (after_events events chip)).after
+    (events : List Event) (chip : State) → is_up chip ≡ false →
+    KeepsSame chip (stages Off (after_events events chip)).after
 unfolding stages timed owned
 off-KeepsSame events chip down = unup-events-KeepsSame events chip down
 

@@ -42,8 +42,8 @@ saved_structure chip = structure_at chip.bus.memory chip.keep.ptr
 abbrev pub encapsulation : State → Encap
 encapsulation chip = (chip.bus.units).encap
 
--- What holds where a boot came to its end: with the pointer saved the registers are those of the structure that stands
--- there, whose check is good, and else they are 0; and the bytes that stay secret are those of the seal in force.
+-- What holds where a boot came to its end: with the pointer saved the registers are those of the structure that
+-- stands there, whose check is good, and else they are 0; and the bytes that stay secret are those of the seal.
 pub record IsInstalled (chip : State) : Type 0 where
   pub saved : chip.keep.mark ≡ SAVED → encapsulation chip ≡ encapsulation_of (saved_structure chip)
   pub good : chip.keep.mark ≡ SAVED → is_good (saved_structure chip) ≡ true

@@ -25,8 +25,8 @@ FitsChip None keep memory = is_unerased keep.mark ≡ true
 abbrev pub IsFilled : BusPart → Type 0
 IsFilled part = sram_filled part.fill part.memory ≡ part.memory
 
--- without power no register holds anything, SRAM is the fill, nothing goes on and nothing is about to, and a boot will
--- start
+-- without power no register holds anything, SRAM is the fill, nothing goes on and nothing is about to, and a boot
+-- will start
 pub record IsUnpowered (chip : State) : Type 0 where
   pub registers : chip.registers ≡ no_registers
   pub sram : IsFilled chip.bus
@@ -37,9 +37,9 @@ pub record IsUnpowered (chip : State) : Type 0 where
   pub first_tick : chip.second_tick ≡ false
   pub place : chip.boot ≡ Some Start
 
--- Between two ticks no reset is requested, no violation is noted, no write is counted, and nothing is listed. All of memory
--- is there, and registers, mark and the borders of the kept set are of their kind. Once a boot is done the kept set is
--- the seal; and a boot that runs fits what stands in memory.
+-- Between two ticks no reset is requested, no violation is noted, no write is counted, and nothing is listed. All of
+-- memory is there, and registers, mark and the borders of the kept set are of their kind. Once a boot is done the kept
+-- set is the seal; and a boot that runs fits what stands in memory.
 pub record IsSound (chip : State) : Type 0 where
   pub unrequested : requests chip.bus ≡ no_causes
   pub quiet : chip.bus.noted ≡ 0

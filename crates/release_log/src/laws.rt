@@ -71,15 +71,15 @@ pub fn run_loses_power_by_cuts()
     ensures { RunLosesPowerByCuts }
 {}
 
-/// A boot that ends with its pointer saved installs the borders of the structure that stands in FRAM at that pointer,
-/// whose check is good; any other boot that ends installs none. The bytes that stay secret are those of the seal then.
+/// A boot that ends with its pointer saved installs the borders of the structure that stands in FRAM at that
+/// pointer, whose check is good; any other boot that ends installs none. What stays secret is the seal then.
 #[tactic(auto, using(crate::proofs::Installs::boot_installs))]
 pub fn boot_installs()
     ensures { BootInstalls }
 {}
 
-/// As long as no boot comes to its end the same bytes stay secret: while a boot goes on, where power is cut in it, even
-/// at its last step, and while there is no power.
+/// As long as no boot comes to its end the same bytes stay secret: while a boot goes on, where power is cut in it,
+/// even at its last step, and while there is no power.
 #[tactic(auto, using(crate::proofs::Stands::boot_keeps_kept))]
 pub fn boot_keeps_kept()
     ensures { BootKeepsKept }
