@@ -21,7 +21,8 @@ from structures import (
 
 WRONG_SHARE = 0.1
 COMMANDS_OF_A_TICK = 7  # so that another has room
-ENDS_OF_A_WIPE = (0x1800, 0x19FE, 0x4400, 0x13FFE, 0x13FFC, 0x1802, 0x4402, 0xFFFE, 0xFF88, 0x1C00)
+ENDS_OF_A_WIPE = (0x1800, 0x19FE, 0x4400, 0x13FFE, 0x13FFE, 0x13FFC, 0x1802, 0x4402, 0xFFFE, 0xFF88,
+                  0x1C00)
 LAST_TICK_OF_A_BOOT = 10
 
 
@@ -80,6 +81,8 @@ def erase(rng: random.Random, targets: Targets) -> list[Timed]:
         commands.append((0, rng.choice((
             Halt(), any_command(rng, targets), WriteWord(actions.WDTCTL, 0), Reset(),
         ))))
+    if rng.random() < 0.5:
+        commands.append((0, WriteWord(rng.choice(ENDS_OF_A_WIPE), rng.randrange(0x10000))))
     if rng.random() < 0.08:
         commands += [(0, WriteWord(address, CLOSING_WORD)) for address in CLOSING_ADDRESSES]
     commands.append((0, Erase()))

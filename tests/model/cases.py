@@ -184,9 +184,9 @@ BOOTS = Style(
     wrong_structures=0.03, structures_outside=0.02, counts_in_fram=0.6,
 )
 CUTS = Style(
-    weights=((power_actions.write_something, 12), *ON_BOOTS, (actions.wait, 0.7),
-             (actions.act_on_status, 0.5), (random_instructions, 0.7), (actions.act_on_ports, 0.5)),
-    interrupts=0.4, longest_chapter=12, loops=0.4, has_vault=True, structures=0.5,
+    weights=((power_actions.write_something, 16), *ON_BOOTS, (actions.wait, 0.3),
+             (actions.act_on_status, 0.5), (random_instructions, 0.5), (actions.act_on_ports, 0.3)),
+    interrupts=0.4, longest_chapter=24, loops=0.4, has_vault=True, structures=0.5,
     wrong_structures=0.02, counts_in_fram=0.9,
 )
 CUTS_OF_ANYTHING = Style(
@@ -317,7 +317,7 @@ def fill_bench(rng: random.Random, case: Case, program: Program) -> None:
 def play_bench(rng: random.Random, case: Case, program: Program) -> None:
     erases = case.kind == "erases"
     sessions = boot_sessions.ERASE_SESSIONS if erases else boot_sessions.BOOT_SESSIONS
-    case.bench.end = rng.randrange(100, 3000)
+    case.bench.end = rng.randrange(100, 2000 if erases else 5000)
     if rng.random() < 0.7:
         add_sessions(rng, case.bench, program, sessions)
     targets = debug_situations.Targets(rng, program.places, program.codes)
@@ -481,9 +481,9 @@ def bench_of_cuts(rng: random.Random) -> str:
     chance = rng.random()
     if chance < 0.05:
         del table[rng.choice(list(table))]
-    elif chance < 0.15:
-        table[rng.choice(("on", "at", "level", "number"))] = "0"
     elif chance < 0.2:
+        table[rng.choice(("on", "at", "level", "number"))] = "0"
+    elif chance < 0.25:
         table[rng.choice(list(table))] = rng.choice(("true", "1.0", '"1"', "[]", "{}"))
     inline = [
         "{ " + ", ".join(f"{key} = {value}" for key, value in table.items()) + " }"

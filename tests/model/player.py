@@ -7,7 +7,7 @@ ticks these are is known only while the run is played, since each cut changes wh
 import random
 from collections import Counter
 from collections.abc import Sequence
-from dataclasses import dataclass
+from dataclasses import dataclass, field
 
 import boot_sessions
 from bench import EVENTS_IN_A_TICK, PINS, Bench, Event, PinLevel
@@ -16,10 +16,12 @@ from bus import Agent
 from chip import Chip
 from debug import Dump, Erase, Go, Halt, ReadRegister, ReadWord, Reset, WriteWord
 from debug_situations import Session, Targets, Timed
-from interrupts import CPUOFF_BIT, SR
-from memory import ADDRESS_MASK, is_fram
+from interrupts import CPUOFF_BIT, PC, SR
+from memory import ADDRESS_MASK, Region, is_fram, region_of
 from power import OFF, ON, Cut, Power
-from protection import Place as PlaceOfViolation
+from protection import MPUCTL1, Place as PlaceOfViolation
+from right import Right
+from system import SYSSNIV
 
 ALL_PINS = tuple(PINS.values())
 LONGEST_RUN = 80_000
@@ -27,24 +29,28 @@ TICKS_OF_AN_ERASE = 32_600  # with those of its boot, and some more
 TICKS_BEHIND_AN_ERASE = (0, 100, 400, 2000)
 
 CHANCE_AT_PLACE = {
-    Place.START: 0.02, Place.SIGNATURE: 0.02, Place.POINTER: 0.05, Place.WORD: 0.04,
-    Place.SAVE_POINTER: 0.15, Place.SAVE_MARK: 0.3, Place.MARK_ERASE: 0.3, Place.WIPE: 0.00002,
-    Place.MARK_EMPTY: 0.4, Place.DONE: 0.1,
+    Place.START: 0.01, Place.SIGNATURE: 0.01, Place.POINTER: 0.03, Place.WORD: 0.02,
+    Place.SAVE_POINTER: 0.1, Place.SAVE_MARK: 0.25, Place.MARK_ERASE: 0.3, Place.WIPE: 0.00002,
+    Place.MARK_EMPTY: 0.4, Place.DONE: 0.05,
 }
-CHANCE_AT_COMMAND = {Erase: 0.25, Reset: 0.12, Halt: 0.05}
-# Of writes to FRAM, or of those behind another one of their tick. Others leave nothing behind.
-CHANCE_AT_WRITE = {Agent.PROCESSOR: 0.06, Agent.ENTRY: 0.12, Agent.DMA: 0.15, Agent.DEBUG: 0.06}
+CHANCE_AT_COMMAND = {Erase: 0.4, Reset: 0.12, Halt: 0.05}
+# The first write of a tick, and another one. Those that don't go to FRAM leave nothing behind.
+CHANCE_AT_FIRST_WRITE = {Agent.PROCESSOR: 0.05, Agent.ENTRY: 0.2, Agent.DMA: 0.3, Agent.DEBUG: 0.05}
+CHANCE_AT_NEXT_WRITE = {Agent.PROCESSOR: 0.3, Agent.ENTRY: 0.4, Agent.DMA: 0.3, Agent.DEBUG: 0.05}
 CHANCE_AT_OTHER_WRITE = 0.002
 CHANCE_BEHIND_THE_DEBUGGER = 0.4  # where the owner of the bus writes in the tick of its writes
-CHANCE_AT_VIOLATION = 0.01
+CHANCE_BEHIND_A_LOST_WRITE = 0.4  # one that was refused or went nowhere, in the same tick
+CHANCE_AT_VIOLATION = 0.02
 CHANCE_AT_THE_END_OF_AN_ERASE = 0.3
 USUAL_PACE = 100
-SHARE_OF_MEDDLING = 0.7
+SHARE_OF_MEDDLING = 0.5
+SHARE_OF_ERASES_WHILE_MEDDLING = 0.12
 PLACES_OF_MEDDLING = (0x1D00, 0x1D02, 0x1900, 0x2400, 0x0160)
 NUMBERS = (0, 0, 1, 1, 2, 3, 4, 9, 17, 33, 64)
+SMALL_NUMBERS = (0, 0, 0, 1, 1, 2)  # where few writes are, or one that matters
 OFFS = (1, 1, 1, 1, 2, 3, 4, 5, 8, 31, 32, 33)
 TICKS_BEHIND_POWER = (3, 4, 6, 7, 10, 11, 11, 12, 12, 13, 16)
-LOOKS_AT_REGISTERS = (0x05A2, 0x019C, 0x019E, 0x015C, 0x0130, 0x0200, 0x0204, 0x05AA)
+LOOKS_AT_REGISTERS = (MPUCTL1, SYSSNIV, 0x019E, 0x015C, 0x0130, 0x0200, 0x0204, 0x05AA)
 
 
 @dataclass(frozen=True)
@@ -63,10 +69,21 @@ def random_temper(
     rng: random.Random, longer: float, sessions: Sequence[tuple[Session, float]]
 ) -> Temper:
     return Temper(
-        most_cuts=rng.choice((0, 1, 2, 5, 10, 20, 40, 40)), pace=rng.choice((30, 80, 200, 600)),
+        most_cuts=rng.choice((0, 1, 3, 10, 20, 40, 40, 40)), pace=rng.choice((30, 80, 200, 600)),
         boots=rng.choice((0.2, 1, 1, 2)), longer=longer,
         share_of_sessions=rng.choice((0, 0.2, 0.6)), sessions=sessions,
     )
+
+
+@dataclass
+class TickSoFar:
+    """What has come in the tick that is played."""
+
+    written: list[int] = field(default_factory=list)  # where
+    debugger_wrote: bool = False
+    lost_a_write: bool = False  # it was refused, or went where nothing is
+    noted: bool = False  # a violation
+    erases_while_meddling: bool = False
 
 
 class Player:
@@ -83,8 +100,7 @@ class Player:
         self.tick_of_power = 0  # when it comes on behind the last cut
         self.chip = Chip(store, bench.fill, Counter())
         self.writes = self.chip.writes
-        self.written: list[int] = []  # where, in this tick
-        self.debugger_wrote = False
+        self.so_far = TickSoFar()
         self.write_of_bus = self.chip.bus.write
         self.chip.bus.write = self.write
         self.note_of_violation = self.chip.protection.note
@@ -100,8 +116,7 @@ class Player:
     def play(self) -> Bench:
         tick = 0
         while tick < self.end:
-            self.written.clear()
-            self.debugger_wrote = False
+            self.so_far = TickSoFar()
             was_booted = self.chip.is_booted()
             if was_booted and self.chip.busy == 0 and self.may_cut():
                 self.meddle(tick)
@@ -117,10 +132,19 @@ class Player:
 
     def meddle(self, tick: int) -> None:
         """Writes of the debugger in a tick in which the owner of the bus may write too."""
-        if self.rng.random() < SHARE_OF_MEDDLING / self.temper.pace:
+        share = SHARE_OF_MEDDLING * (12 if self.comes_to_much() else 1)
+        if self.rng.random() < share / self.temper.pace:
             for _ in range(self.rng.randrange(1, 4)):
                 at = self.rng.choice((*PLACES_OF_MEDDLING, self.targets.address(self.rng)))
                 self.plan(tick, [(0, WriteWord(at, self.rng.randrange(0x10000)))])
+            if self.rng.random() < SHARE_OF_ERASES_WHILE_MEDDLING:
+                self.plan(tick, [(0, Erase())])
+                self.so_far.erases_while_meddling = True
+
+    def comes_to_much(self) -> bool:
+        """Whether the next instruction may write several words: PUSHM, an extended one, MOVA."""
+        word = self.chip.memory.read_word(self.chip.registers.get(PC))
+        return 0x1400 <= word < 0x1600 or 0x1800 <= word < 0x2000 or word & 0xF0E0 == 0x0060
 
     # Whether a cut comes
 
@@ -130,8 +154,12 @@ class Player:
     def power(self, tick: int) -> Power:
         if tick < self.tick_of_power:
             return OFF
+        if self.so_far.erases_while_meddling:  # most often in vain
+            return Power(is_on=True, whole_writes=self.rng.choice(SMALL_NUMBERS))
         if self.may_cut() and self.rng.random() < self.chance(tick):
-            return Power(is_on=True, whole_writes=self.rng.choice(NUMBERS))
+            in_boot = not self.chip.is_booted()
+            numbers = SMALL_NUMBERS if in_boot or self.rng.random() < 0.4 else NUMBERS
+            return Power(is_on=True, whole_writes=self.rng.choice(numbers))
         return ON
 
     def chance(self, tick: int) -> float:
@@ -154,19 +182,30 @@ class Player:
 
     def write(self, at: int, size: str, value: int) -> None:
         """Stands for that of the bus. It may find that this is the tick of a cut."""
-        agent = self.chip.bus.agent
-        chance = CHANCE_AT_OTHER_WRITE
-        if self.debugger_wrote and agent is not Agent.DEBUG:
+        agent, so_far = self.chip.bus.agent, self.so_far
+        if not is_fram(at):
+            chance = CHANCE_AT_OTHER_WRITE
+        elif so_far.debugger_wrote and agent is not Agent.DEBUG:
             chance = CHANCE_BEHIND_THE_DEBUGGER
-        elif self.writes.count or is_fram(at):
-            chance = CHANCE_AT_WRITE[agent]
+        elif so_far.lost_a_write:
+            chance = CHANCE_BEHIND_A_LOST_WRITE
+        else:
+            chances = CHANCE_AT_NEXT_WRITE if so_far.written else CHANCE_AT_FIRST_WRITE
+            chance = chances[agent]
         self.cut_here(chance)
-        self.debugger_wrote |= agent is Agent.DEBUG
-        self.written.append(at & ADDRESS_MASK)
+        so_far.debugger_wrote |= agent is Agent.DEBUG
+        so_far.lost_a_write |= self.is_lost(at & ADDRESS_MASK)
+        so_far.written.append(at & ADDRESS_MASK)
         self.write_of_bus(at, size, value)
+
+    def is_lost(self, at: int) -> bool:
+        if region_of(at) in (Region.VACANT, Region.DESCRIPTOR):
+            return True
+        return self.chip.encapsulation.refuses(at, Right.WRITE, self.chip.bus.instruction)
 
     def note(self, place: PlaceOfViolation) -> None:
         """Stands for that of protection, in the same way."""
+        self.so_far.noted = True
         self.cut_here(CHANCE_AT_VIOLATION)
         self.note_of_violation(place)
 
@@ -206,15 +245,17 @@ class Player:
 
     def place_of_a_look(self) -> int:
         """Most often that of a write about the last whole one."""
-        chance = self.rng.random()
+        chance, written = self.rng.random(), self.so_far.written
+        if self.so_far.noted and chance < 0.4:
+            return self.rng.choice((MPUCTL1, SYSSNIV))
         if chance < 0.1:
             return self.rng.choice(LOOKS_AT_REGISTERS)
-        if chance < 0.2 or not self.written:
+        if chance < 0.2 or not written:
             return self.targets.address(self.rng)
         if chance < 0.4:
-            return self.rng.choice(self.written) + self.rng.choice((0, 0, -2, 2, 1))
+            return self.rng.choice(written) + self.rng.choice((0, 0, -2, 2, 1))
         index = self.writes.whole + self.rng.choice((-1, 0, 0, 1))
-        return self.written[min(max(index, 0), len(self.written) - 1)]
+        return written[min(max(index, 0), len(written) - 1)]
 
     def follow_boot(self, tick: int) -> None:
         boot = self.chip.boot

@@ -18,6 +18,8 @@ from protection_actions import at, far, free_address_in_fram
 
 SP = assembler.SP
 USUAL_STACK = 0x2400
+HELPER = 12
+RLAM_BY_4 = 0x0E40  # of 20 bits
 # Above or below them something is written, and on the other side nothing.
 BORDERS_OF_MEMORY = (0x1800, 0x1A00, 0x1C00, 0x2400, 0x4400, 0x14000)
 
@@ -41,11 +43,13 @@ def random_target(rng: random.Random, code: Code) -> int:
 
 
 def new_value(rng: random.Random, code: Code, number: int) -> None:
-    """A register that differs from start to start."""
-    code.put(assembler.set_register(number, rng.randrange(1 << 20)))
-    code.put(two(rng.choice(("ADD", "XOR")), absolute(code.places.counter), register(number)))
-    if rng.random() < 0.5:
-        code.put([0x00E0 | number << 8 | number])  # ADDA of itself moves bits into the upper word
+    """A register that differs from start to start, in its lower bits and in bits 19:16."""
+    value = rng.randrange(1 << 20)
+    code.put(two("MOV", absolute(code.places.counter), register(HELPER)))
+    code.put(two("MOV", register(HELPER), register(number)))
+    code.put([RLAM_BY_4 | HELPER] * 4)
+    code.put([0x00E0 | HELPER << 8 | number])  # ADDA
+    code.put([0x00A0 | value >> 16 << 8 | number, value & 0xFFFF])  # ADDA #value
 
 
 def show_target(rng: random.Random, code: Code, address: int) -> None:
@@ -194,8 +198,8 @@ def write_twice(rng: random.Random, code: Code) -> None:
 
 
 ACTIONS = (
-    (store_20_bits, 4), (write_over_a_border, 2.5), (push_many, 3), (push_and_call, 2.5), (be_interrupted, 2.5),
-    (change_word, 2), (transfer, 4), (keep_a_log, 1.5), (write_twice, 1),
+    (store_20_bits, 6), (write_over_a_border, 3), (push_many, 3), (push_and_call, 2.5),
+    (be_interrupted, 4), (change_word, 2), (transfer, 4), (keep_a_log, 1), (write_twice, 1),
 )
 
 

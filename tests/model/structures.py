@@ -15,6 +15,7 @@ ENDS_OF_FRAM = (0x1800, 0x19F0, 0x4400, 0x13FF0, 0x10000, 0xFFF0)
 AMONG_THE_VECTORS = range(0xFF80, 0x10000, GRAIN_OF_PLACES)
 OUTSIDE_OF_FRAM = (0x0000, 0x0200, 0x05A0, 0x0FF0, 0x1000, 0x17F0, 0x1A00, 0x1AF0, 0x1B00, 0x1C00,
                    0x1C80, 0x23F0, 0x2400, 0x43F0, 0x14000, 0x20000, 0xFFFF0)
+WORDS_THAT_AN_ERASE_ENDS_WITH = (0x19FE, 0x13FFE)
 CLOSING_WORD = 0x5555  # twice at FF80h it closes the debug port
 BITS_THAT_ARENT_KEPT = 0xFF1F  # of the first word
 CONTROLS = (ENA | LOCK,) * 6 + (ENA, ENA, LOCK, 0)
@@ -67,8 +68,10 @@ def wrong_check(rng: random.Random, words: list[int]) -> int:
     wiped = list(words)
     wiped[rng.randrange(3)] = 0xFFFF
     other = rng.choice((
-        right ^ 1 << rng.randrange(16), right ^ 1 << rng.randrange(6), right ^ 0xFFFF, right_check(wiped), right_check(wiped),
-        ~sum(words) & 0xFFFF, -sum(words) & 0xFFFF, 0xFFFF, 0,
+        right ^ 1 << rng.randrange(16), right ^ 1 << rng.randrange(6),
+        right ^ 1 << rng.randrange(6), right ^ 0xFFFF,
+        right_check(wiped), right_check(wiped), ~sum(words) & 0xFFFF, -sum(words) & 0xFFFF,
+        0xFFFF, 0,
     ))
     return other if other != right else right ^ 1
 
@@ -104,6 +107,9 @@ def write_structures(
     if rng.random() < 0.87:
         signature = SIGNATURE if rng.random() < 0.96 else rng.choice((0xAAAB, 0xAA2A, 0x00AA))
         program.single_words[SIGNATURE_ADDRESS] = signature
+    for address in WORDS_THAT_AN_ERASE_ENDS_WITH:
+        if rng.random() < 0.5:
+            program.single_words[address] = rng.randrange(0x10000)
     program.single_words[POINTER_ADDRESS] = places.structures[0] // GRAIN_OF_PLACES
 
 
