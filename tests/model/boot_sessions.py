@@ -4,7 +4,6 @@ import random
 
 import actions
 import assembler
-import structures
 from assembler import absolute, immediate, two
 from bench import EVENTS_IN_A_TICK
 from debug import (

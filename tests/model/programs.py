@@ -16,7 +16,6 @@ import protection_routines
 import structures
 import timer_actions
 from assembler import Operand, absolute, immediate, indexed, register, two
-from image import Segment
 from instruction_words import InstructionMaker, Knobs
 from layout import INFORMATION, INFORMATION_SIZE, SLOT_SIZE, Code, Program
 
