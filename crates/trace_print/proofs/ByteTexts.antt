@@ -3,8 +3,7 @@ use Rattle.std.proofs.Common.{◌≡◌, ℕ, suc, ◌<◌, ◌/◌, ◌%◌, �
 use Rattle.std.specs.Char.{to_ascii_uppercase}
 use Rattle.std.proofs.lemmas.Bool.{agree_below_at, eqb-true}
 use Rattle.hex.specs.Hex.{IsBytes, encode_lower, encode_with, lower_digits}
-use Rattle.trace_print.specs.DebugLines.{bytes_text}
-use Rattle.trace_print.specs.Digits.{hex_digit, hex_digits}
+use Rattle.trace_print.specs.Digits.{bytes_text, hex_digit, hex_digits}
 
 -- a small digit in capitals
 upper_digit : (digit : ℕ) → digit < 16 → to_ascii_uppercase (slice_index lower_digits digit) ≡ hex_digit digit

@@ -1,11 +1,10 @@
 -- How a command of the debugger and its answer are written.
 use Rattle.std.specs.Prelude.{ℕ, List, ◌++◌, codes, decimal}
-use Rattle.std.specs.List.{flat_map}
 use Rattle.debug_port.specs.declared.commands.Command.{Command}
 use Rattle.debug_port.specs.declared.commands.Command.TheVariants.{Read, Write, Dump, Reg, SetReg, Halt, Go, Reset, Erase}
 use Rattle.debug_port.specs.declared.answers.Answer.{Answer}
 use Rattle.debug_port.specs.declared.answers.Answer.TheVariants.{Value, Register, Bytes, Accepted, Closed, Booting, Running}
-use Rattle.trace_print.specs.Digits.{hex_digits}
+use Rattle.trace_print.specs.Digits.{bytes_text, hex_digits}
 
 -- a command is told by its name, and by the address as it was given or the number of the register; a count and a value
 -- aren't told
@@ -19,10 +18,6 @@ command_text Halt = codes "halt"
 command_text Go = codes "go"
 command_text Reset = codes "reset"
 command_text Erase = codes "erase"
-
--- two digits for each byte
-abbrev pub bytes_text : List ℕ → List ℕ
-bytes_text bytes = flat_map (λ byte. hex_digits 2 byte) bytes
 
 -- what a command answered, or why it was refused
 abbrev pub answer_text : Answer → List ℕ

@@ -1,11 +1,11 @@
 ghost use Rattle.std.specs.Prelude.{◌≡◌, ◌+◌, ◌≤◌, ◌++◌, decimal, length};
 ghost use Rattle.arrayvec.specs.ArrayVec.{array_vec_len};
 ghost use Rattle.debug_port.specs.Commands.{IsAnswer};
-ghost use Rattle.trace_print.specs.DebugLines.{answer_text, bytes_text, command_text, debug_text};
+ghost use Rattle.trace_print.specs.DebugLines.{answer_text, command_text, debug_text};
 ghost use Rattle.trace_print.specs.Digits.{hex_digits};
 
 use crate::lines::Line;
-use crate::pieces::{push_decimal, push_hex, push_text};
+use crate::pieces::{push_bytes, push_decimal, push_hex, push_text};
 use debug_port::{Answer, Command};
 
 /// Appends a command of the debugger, and what it answered.
@@ -59,7 +59,7 @@ fn push_register(line: &mut Line, name: &[u8], n: u8)
     ensures len { array_vec_len line.new ≤ array_vec_len line.old + 17 }
 {
     push_text(line, name);
-    push_decimal(line, n.into());
+    push_decimal(line, n);
 }
 
 /// Appends an answer.
@@ -78,19 +78,4 @@ fn push_answer(line: &mut Line, answer: &Answer)
         Answer::Booting => push_text(line, b"booting"),
         Answer::Running => push_text(line, b"running"),
     }
-}
-
-/// Appends bytes, each as two hexadecimal digits.
-#[tactic(auto, using(crate::proofs::ByteTexts::byte_texts))]
-fn push_bytes(line: &mut Line, bytes: &[u8])
-    requires few { length bytes.now ≤ 32 }
-    requires room { array_vec_len line.old ≤ 33 }
-    ensures text { line.new.items ≡ line.old.items ++ bytes_text bytes.now }
-    ensures len { array_vec_len line.new ≤ array_vec_len line.old + 64 }
-{
-    let mut room = [0; 64];
-    let digits = &mut room[..2 * bytes.len()];
-    hex::encode_to_slice(bytes, digits).unwrap();
-    digits.make_ascii_uppercase();
-    push_text(line, digits);
 }

@@ -91,7 +91,7 @@ fn push_pin(line: &mut Line, port: u8, levels: &[Level; 8])
     ensures len { array_vec_len line.new ≤ 40 }
 {
     push_text(line, b"PIN P");
-    push_decimal(line, port.into());
+    push_decimal(line, port);
     line.push(b' ');
     push_levels(line, levels);
 }
