@@ -34,6 +34,10 @@ text_of Cut = codes "CUT"
 text_of (Pin port levels) = codes "PIN P" ++ decimal port ++ codes " " ++ letters_of levels
 text_of End = codes "END"
 
--- the whole line: the tick in decimal, a space, the text and a line feed
+-- a whole line: the tick in decimal, a space, the text and a line feed
+abbrev pub line_with : ℕ → List ℕ → List ℕ
+line_with tick text = decimal tick ++ codes " " ++ text ++ codes "\n"
+
+-- the line of an item
 unfoldable pub line_of : ℕ → TraceItem → List ℕ
-line_of tick item = decimal tick ++ codes " " ++ text_of item ++ codes "\n"
+line_of tick item = line_with tick (text_of item)

@@ -1,4 +1,4 @@
-ghost use Rattle.std.specs.Prelude.{◌≡◌, ◌+◌, ◌≤◌, ◌++◌};
+ghost use Rattle.std.specs.Prelude.{◌≡◌, ◌+◌, ◌≤◌, ◌++◌, codes, decimal};
 ghost use Rattle.arrayvec.specs.ArrayVec.{array_vec_len};
 ghost use Rattle.trace_print.specs.Levels.{letters_of};
 ghost use Rattle.trace_print.specs.Lines.{IsPrintable, boot_text, line_of, text_of};
@@ -19,11 +19,20 @@ pub fn trace_line(tick: u32, item: &TraceItem) -> ArrayVec<u8, 160>
     requires { IsPrintable item.now }
     ensures { result.items ≡ line_of tick item.now }
 {
+    let mut line = begin_line(tick);
+    push_item(&mut line, item);
+    line.push(b'\n');
+    line
+}
+
+/// A line up to its text: the number of its tick and a space.
+pub(crate) fn begin_line(tick: u32) -> Line
+    ensures text { result.items ≡ decimal tick ++ codes " " }
+    ensures len { array_vec_len result ≤ 11 }
+{
     let mut line = ArrayVec::new();
     push_decimal(&mut line, tick);
     line.push(b' ');
-    push_item(&mut line, item);
-    line.push(b'\n');
     line
 }
 
