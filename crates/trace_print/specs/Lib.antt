@@ -2,3 +2,4 @@ pub mod Levels
 pub mod Digits
 pub mod DebugLines
 pub mod Lines
+pub mod Releases
