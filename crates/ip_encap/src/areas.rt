@@ -1,5 +1,5 @@
 ghost use Rattle.std.specs.Prelude.{◌≡◌, ◌<◌};
-ghost use Rattle.chip_words.specs.Seals.{between as between_of, is_never_sealed as is_never_sealed_at, nowhere};
+ghost use Rattle.chip_words.specs.Seals.{between as between_of, is_in, is_never_sealed as is_never_sealed_at, nowhere};
 ghost use Rattle.chip_words.specs.Segments.{border as border_of, border_bits as border_bits_of};
 
 use chip_words::Seal;
@@ -12,10 +12,10 @@ pub const NOWHERE: Seal = Seal { low: 0, high: 0 };
 const BORDER_BITS: u16 = 0xFFC0;
 
 /// The signatures and the interrupt vectors, which are never sealed, begin here.
-const SIGNATURES: u32 = 0xFF80;
+pub const SIGNATURES: u32 = 0xFF80;
 
 /// And they end with this byte.
-const LAST_VECTOR: u32 = 0xFFFF;
+pub const LAST_VECTOR: u32 = 0xFFFF;
 
 /// What a register of a border keeps of a word.
 pub fn border_bits(word: u16) -> u16
@@ -50,4 +50,12 @@ pub fn is_never_sealed(at: u32) -> bool
     ensures { result ≡ is_never_sealed_at at }
 {
     (SIGNATURES..=LAST_VECTOR).contains(&at)
+}
+
+/// The seal holds an address.
+#[tactic(auto, unfolding(chip_words::specs::Seals::is_in))]
+pub fn holds(seal: Seal, at: u32) -> bool
+    ensures { result ≡ is_in seal at }
+{
+    seal.low <= at && at < seal.high && (MAIN_START..MAIN_END).contains(&at) && !is_never_sealed(at)
 }

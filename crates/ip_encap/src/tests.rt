@@ -1,4 +1,4 @@
-use crate::{Borders, Encap};
+use crate::{Borders, Encap, opened};
 use chip_words::{Agent, Kind, MPUIPC0, MPUIPSEGB1, MPUIPSEGB2, Seal, Size};
 
 /// No address at all.
@@ -230,4 +230,106 @@ fn registers_read_by_word_and_by_byte(rt: HostRuntime) {
         assert_eq!(rt; encap.read(at, Size::Byte), byte);
     }
     assert_eq!(rt; words(&encap), [0x00A0, 0x1FC0, 0x0480]);
+}
+
+/// The ends of a seal or an interval that isn't there.
+const NONE: (u32, u32) = (0, 0);
+
+/// The ends of the intervals that leave one seal for another, each given by its ends.
+fn left(before: (u32, u32), after: (u32, u32)) -> [(u32, u32); 3] {
+    let (low, high) = before;
+    let before = Seal { low, high };
+    let (low, high) = after;
+    let after = Seal { low, high };
+    let mut ends = [NONE; 3];
+    for (end, interval) in ends.iter_mut().zip(opened(before, after).iter()) {
+        *end = (interval.low, interval.high);
+    }
+    ends
+}
+
+#[test]
+fn addresses_leave_a_seal_that_moves(rt: HostRuntime) {
+    let before = (0x4800, 0x5000);
+    // The ends of the seal that comes behind it, and those of what is left: it moves up, down and away, and vanishes.
+    for (after, ends) in [
+        ((0x4C00, 0x5400), (0x4800, 0x4C00)),
+        ((0x4400, 0x4C00), (0x4C00, 0x5000)),
+        ((0x6000, 0x6400), before),
+        (NONE, before),
+        // It stays, and grows on both sides.
+        (before, NONE),
+        ((0x4400, 0x5400), NONE),
+    ] {
+        assert_eq!(rt; left(before, after), [ends, NONE, NONE]);
+    }
+    // It comes, and shrinks on both sides.
+    assert_eq!(rt; left(NONE, before), [NONE; 3]);
+    let sides = [(0x4800, 0x4A00), (0x4C00, 0x5000), NONE];
+    assert_eq!(rt; left(before, (0x4A00, 0x4C00)), sides);
+}
+
+#[test]
+fn signatures_and_vectors_never_leave_a_seal(rt: HostRuntime) {
+    // The ends of the seal behind 0F000h to 11FFFh, and of the intervals that are left.
+    for (after, first, second, third) in [
+        (NONE, (0xF000, 0xFF80), (0x10000, 0x12000), NONE),
+        // The new one lies below the signatures, above the vectors, and round both.
+        (
+            (0xF400, 0xF800),
+            (0xF000, 0xF400),
+            (0xF800, 0xFF80),
+            (0x10000, 0x12000),
+        ),
+        (
+            (0x10400, 0x11000),
+            (0xF000, 0xFF80),
+            (0x10000, 0x10400),
+            (0x11000, 0x12000),
+        ),
+        (
+            (0xF800, 0x10400),
+            (0xF000, 0xF800),
+            (0x10400, 0x12000),
+            NONE,
+        ),
+        // It holds nothing, among them.
+        ((0xFF90, 0xFFA0), (0xF000, 0xFF80), (0x10000, 0x12000), NONE),
+    ] {
+        assert_eq!(rt; left((0xF000, 0x12000), after), [first, second, third]);
+    }
+}
+
+#[test]
+fn addresses_leave_seals_with_any_ends(rt: HostRuntime) {
+    // The ends of both seals, which no registers give, and of the intervals that are left.
+    for (before, after, first, second, third) in [
+        // Ends outside main FRAM, and swapped ones.
+        (
+            (0, 0xFFFFF),
+            (0x5000, 0x6000),
+            (0x4400, 0x5000),
+            (0x6000, 0xFF80),
+            (0x10000, 0x14000),
+        ),
+        ((0x5000, 0x4800), NONE, NONE, NONE, NONE),
+        (
+            (0x4400, 0x6000),
+            (0x5000, 0x4800),
+            (0x4400, 0x6000),
+            NONE,
+            NONE,
+        ),
+        // Ends among the signatures and vectors.
+        ((0xFF90, 0x10400), NONE, (0x10000, 0x10400), NONE, NONE),
+        (
+            (0xFF00, 0xFFA0),
+            (0xFF60, 0xFF90),
+            (0xFF00, 0xFF60),
+            NONE,
+            NONE,
+        ),
+    ] {
+        assert_eq!(rt; left(before, after), [first, second, third]);
+    }
 }
