@@ -1,4 +1,5 @@
 pub mod MemoryBy
 pub mod Kept
+pub mod ListedAccesses
 pub mod Places
 pub mod Writes

@@ -1,3 +1,4 @@
+pub mod Listable
 pub mod Memory
 pub mod FirstBus
 pub mod Fabric

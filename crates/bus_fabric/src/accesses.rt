@@ -194,7 +194,11 @@ impl Fabric {
     }
 
     /// Adds an access to the step's list, but for the debugger's.
+    #[tactic(auto, using(crate::proofs::ListedAccesses::with_one_more))]
     fn list(&mut self, who: Agent, kind: Kind, at: u32, size: Size, value: u32, done: bool)
+        requires place { at < 0x100000 }
+        requires width { IsByteOrWord size }
+        requires fits { value < span size }
         requires room { HasRoom who (bus_part_of self.old) }
         ensures list { Changes (with_listed who kind at size value done) self.old self.new }
         ensures count { ListsOne self.old self.new }

@@ -1,10 +1,11 @@
-ghost use Rattle.std.specs.Prelude.{◌≡◌, ◌%◌, ◌<◌, ◌≤◌, None, true, not, IfOk, IfSome, IsTrue, is_some, length, slice_index, slice_set, vec_len};
+ghost use Rattle.std.specs.Prelude.{◌≡◌, ◌%◌, ◌<◌, ◌≤◌, None, true, not, All, IfOk, IfSome, IsTrue, is_some, length, slice_index, slice_set, vec_len};
 ghost use Rattle.memory_map.specs.declared.TheConstants.{MAIN_END};
 ghost use Rattle.chip_words.specs.Access.{is_over, numbered, requested, sys_asked};
 ghost use Rattle.chip_words.specs.Causes.{least_cause};
 ghost use Rattle.chip_words.specs.Map.{has_bytes, region_at};
 ghost use Rattle.chip_words.specs.Memory.{loaded};
 ghost use Rattle.chip_words.specs.Steps.{begun, ended_at, step_ended, violation_ended, waits_in};
+ghost use Rattle.bus_fabric.specs.Listable.{IsListable};
 ghost use Rattle.bus_fabric.specs.FirstBus.{first_bus};
 ghost use Rattle.bus_fabric.specs.Memory.{fram_copied, sram_filled};
 
@@ -50,6 +51,7 @@ pub struct Fabric {
     /// The causes that the accesses of the step have requested.
     causes: Causes,
     ghost whole: { vec_len memory ≡ MAIN_END },
+    ghost listable: { All IsListable accesses.items },
 }
 
 impl Fabric {
@@ -191,6 +193,7 @@ impl Fabric {
     /// The accesses of the step so far.
     pub fn accesses(&self) -> &ArrayVec<Access, 64>
         ensures list { result.now.items ≡ (bus_part_of self.now).accesses }
+        ensures listable { All IsListable result.now.items }
     {
         &self.accesses
     }
