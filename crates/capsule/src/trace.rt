@@ -5,7 +5,7 @@ ghost use Rattle.trace_print.specs.Lines.{IsPrintable, line_of};
 ghost use Rattle.capsule.specs.Trace.{run_text, text_of_lines};
 
 use bench_io::{PutFailed, Sink, put_all};
-use chip_core::{Chip, Lines};
+use chip_core::{Chip, Items, Lines};
 use stimulus::Bench;
 use trace_print::{TraceItem, trace_line};
 
@@ -58,8 +58,9 @@ pub fn write_trace<K: Sink>(
         (AppendsFront (K.written out.old) (K.written out.new) (run_text end bench.now chip.old)) }
 {
     let mut lines = Lines::new();
+    let mut items = Items::new();
     for n in 0..end {
-        chip.tick(bench, &mut lines);
+        chip.tick(bench, &mut lines, &mut items);
         match put_lines(n, lines.as_slice(), out) {
             Ok(()) => {}
             Err(e) => return Err(e),

@@ -7,8 +7,10 @@ pub mod Debugger
 pub mod Pins
 pub mod Owners
 pub mod Turns
+pub mod Steps
 pub mod Tick
 pub mod Lines
+pub mod Items
 pub mod Inside
 pub mod View
 pub mod Run

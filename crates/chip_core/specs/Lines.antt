@@ -90,7 +90,7 @@ lines_with_power was_halted step chip after =
 -- what the stages behind the stimulus show, by the power of the tick; CUT: power was cut
 abbrev pub stage_lines : Power → Stages → List TraceItem
 stage_lines power.On stages =
-    lines_with_power (stages.ready).halted stages.step (stages.turn).chip stages.after
+    lines_with_power (stages.ready).halted stages.boot (stages.turn).chip stages.after
 stage_lines (power.Cut writes) stages = Cut ∷ []
 stage_lines power.Off stages = []
 

@@ -142,9 +142,9 @@ pub record Stages : Type 0 where
   pub ready : State
   -- who owns the bus
   pub owner : Owner
-  -- what the owner made of its turn, and the step that a boot made in it
+  -- what the owner made of its turn, and the step of the boot in it, if it was the boot's
   pub turn : Turn
-  pub step : Option BootStep
+  pub boot : Option BootStep
   -- behind the reset or the cut
   pub after : State
 
@@ -153,7 +153,7 @@ stages_by power ready owner = record {
   ready = ready;
   owner = owner;
   turn = owned owner ready;
-  step = step_owned owner ready;
+  boot = step_owned owner ready;
   after = finished power (owned owner ready).chip;
 }
 

@@ -23,25 +23,22 @@ use Rattle.cpux_extended.specs.Instruction.{instruction}
 use Rattle.dma_unit.specs.declared.transfers.Move.{Move}
 use Rattle.dma_unit.specs.Moves.{transfer}
 use Rattle.dma_unit.specs.Transfers.{due, move_at, passed, transferred}
+use Rattle.chip_core.specs.declared.steps.Step.{Step}
 use Rattle.chip_core.specs.Boot.{boot_run, booted_from}
 use Rattle.chip_core.specs.Entry.{entry}
 use Rattle.chip_core.specs.Phase.{is_private}
 use Rattle.chip_core.specs.State.{State}
 
--- what the owner made of its turn. The list of the step's accesses, and the causes that they requested, still stand in
--- the bus part.
+-- what the owner made of its turn
 pub record Turn : Type 0 where
   pub chip : State
-  -- the vector of the interrupt that was entered
-  pub vector : Option ℕ
-  -- the places of the step's violations
-  pub noted : ℕ
-  -- the least cause that the step requested
-  pub cause : Option ℕ
+  -- the processor's step in it, if it made one: an instruction, or the entry into an interrupt. The list of its accesses
+  -- still stands in the bus part
+  pub step : Option Step
 
--- a turn without an instruction and an entry
+-- a turn without a step of the processor
 abbrev pub without_step : State → Turn
-without_step chip = record { chip = chip; vector = None; noted = 0; cause = None }
+without_step chip = record { chip = chip; step = None }
 
 -- a step of the boot
 unfoldable pub boot_turn : Place → State → State
@@ -69,12 +66,18 @@ instruction_ended outcome chip = record chip {
   busy = busy_after outcome (waits_in chip.bus);
 }
 
+-- its step, with the causes of its accesses and of its end, and that of a reserved word
+abbrev pub instruction_step : Outcome → BusPart → Step
+instruction_step outcome part = record {
+  vector = None;
+  noted = part.noted;
+  cause = lesser_cause (least_cause (step_ended (asked (reserved_cause outcome) part)).causes) (reserved_cause outcome);
+}
+
 abbrev pub instructed_from : Ran Stepped → State → Turn
 instructed_from ran chip = record {
   chip = instruction_ended (ran.value).outcome (record chip { bus = ran.part; registers = (ran.value).registers });
-  vector = None;
-  noted = (ran.part).noted;
-  cause = lesser_cause (least_cause (step_ended ran.part).causes) (reserved_cause (ran.value).outcome);
+  step = Some (instruction_step (ran.value).outcome ran.part);
 }
 
 -- the instruction at PC
@@ -97,6 +100,14 @@ accepted_by chip = accepted (units_lines (chip.bus.units)) (takes_interrupts chi
 abbrev pub entry_cycles : ℕ
 entry_cycles = 6
 
+-- its step
+abbrev pub entry_step : ℕ → BusPart → Step
+entry_step vector part = record {
+  vector = Some vector;
+  noted = part.noted;
+  cause = least_cause (step_ended (part_entered vector part)).causes;
+}
+
 -- behind its accesses an entry clears what asked for it, before the end of the step may ask again
 abbrev pub entered_from : ℕ → Ran (List ℕ) → State → Turn
 entered_from vector ran chip = record {
@@ -105,9 +116,7 @@ entered_from vector ran chip = record {
     registers = ran.value;
     busy = entry_cycles - 1 + waits_in ran.part;
   };
-  vector = Some vector;
-  noted = (ran.part).noted;
-  cause = least_cause (step_ended ran.part).causes;
+  step = Some (entry_step vector ran.part);
 }
 
 unfoldable pub entered : ℕ → State → Turn
@@ -137,12 +146,7 @@ with_dma change chip = record chip {
 }
 
 abbrev pub moved_from : Ran ℕ → State → Turn
-moved_from ran chip = record {
-  chip = record chip { bus = step_ended ran.part; second_tick = true };
-  vector = None;
-  noted = (ran.part).noted;
-  cause = least_cause (step_ended ran.part).causes;
-}
+moved_from ran chip = without_step (record chip { bus = step_ended ran.part; second_tick = true })
 
 -- the first tick of a transfer has both of its accesses
 abbrev pub moved : Option Move → State → Turn

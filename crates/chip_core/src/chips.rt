@@ -6,14 +6,15 @@ ghost use Rattle.chip_words.specs.Bits.{has_bit};
 ghost use Rattle.chip_words.specs.Causes.{is_of_bor as is_of_bor_cause};
 ghost use Rattle.chip_words.specs.Registers.{SR as STATUS};
 ghost use Rattle.chip_core.specs.FirstState.{first_state};
+ghost use Rattle.chip_core.specs.Items.{IsItem, items_of, stages_items};
 ghost use Rattle.chip_core.specs.Lines.{event_lines, halted_since, lines_of, lines_with_power, power_lines, stage_lines, stimulus_lines};
 ghost use Rattle.chip_core.specs.Pins.{pins_of};
 ghost use Rattle.chip_core.specs.Tick.{aclk_edge, after_bor, after_event, after_puc, at_rest, budget_of, clocked, cut as cut_state, powered, reset as reset_of, smclk_edge, stages, stimulated, taken_cause, ticked};
 
-use crate::Lines;
 use crate::images::image_memory;
 use crate::lines::{tell_halt, tell_reset};
 use crate::pin_lines::tell_changes;
+use crate::{Items, Lines};
 use boot_code::{Boot, BootStep, Keep, image_seal};
 use bus_fabric::Fabric;
 use chip_words::{DEBUG_RESET, NoMemory, PC, POWER_ON, Regs, SOFTWARE_BOR, SR};
@@ -110,21 +111,24 @@ impl Chip {
         }
     }
 
-    /// Does the next tick under a bench, and puts its lines in place of those in `lines`.
-    #[tactic(auto, unfolding(crate::specs::Tick::ticked, crate::specs::Tick::moments, crate::specs::Lines::lines_of))]
-    pub fn tick(&mut self, bench: &Bench, lines: &mut Lines)
+    /// Does the next tick under a bench, and puts its lines and its items in place of those in `lines` and `items`.
+    #[tactic(auto, unfolding(crate::specs::Tick::ticked, crate::specs::Tick::moments, crate::specs::Lines::lines_of, crate::specs::Items::items_of))]
+    pub fn tick(&mut self, bench: &Bench, lines: &mut Lines, items: &mut Items)
         requires { (self.old).tick < 10000000 }
         ensures chip { self.new ≡ ticked bench.now self.old }
         ensures lines { lines.new.items ≡ lines_of bench.now self.old }
+        ensures items { items.new.items ≡ items_of bench.now self.old }
         ensures printable { All IsPrintable lines.new.items }
+        ensures given { All IsItem items.new.items }
     {
         lines.clear();
+        items.clear();
         let next = self.tick + 1;
         let pins = self.pins();
         let power = bench.power(self.tick);
         self.supply(power, lines);
         self.stimulate(bench, lines);
-        self.do_stages(power, lines);
+        self.do_stages(power, lines, items);
         tell_changes(pins, self.pins(), lines);
         self.fabric.end_tick();
         self.tick = next;
@@ -149,30 +153,41 @@ impl Chip {
 
     /// The stages behind the stimulus, with what they show but for the pins: the timers, the turn of the bus owner, and
     /// then the reset or the cut. Without power there are none.
-    #[tactic(auto, unfolding(crate::specs::Tick::stages, crate::specs::Tick::timed, crate::specs::Turns::owned))]
-    fn do_stages(&mut self, power: Power, lines: &mut Lines)
+    #[tactic(auto, using(crate::proofs::NoItems::no_items_without_power), unfolding(crate::specs::Tick::stages, crate::specs::Tick::timed, crate::specs::Turns::owned))]
+    fn do_stages(&mut self, power: Power, lines: &mut Lines, items: &mut Items)
         requires room { array_vec_len lines.old ≤ 9 }
         requires printable { All IsPrintable lines.old.items }
+        requires none { items.old.items ≡ [] }
         ensures chip { self.new ≡ (stages power self.old).after }
         ensures lines { lines.new.items ≡ lines.old.items ++ stage_lines power (stages power self.old) }
+        ensures items { items.new.items ≡ stages_items power (stages power self.old) }
         ensures count { array_vec_len lines.new ≤ 13 }
         ensures printable { All IsPrintable lines.new.items }
+        ensures given { All IsItem items.new.items }
     {
         match power {
             Power::Off => {}
             Power::Cut(_) => {
                 self.time();
+                let start = self.start();
                 let owner = self.owner();
-                self.own(owner);
+                let made = self.own(owner);
+                self.note_step(power, &start, made.step, items);
+                self.note_boot(power, &start, made.boot, items);
                 self.cut();
+                self.note_exit(&start, items);
                 lines.push(TraceItem::Cut);
             }
             Power::On => {
                 self.time();
+                let start = self.start();
                 let was_halted = self.halted;
                 let owner = self.owner();
-                let step = self.own(owner);
-                self.end_stages(was_halted, step, lines);
+                let made = self.own(owner);
+                self.note_step(power, &start, made.step, items);
+                self.note_boot(power, &start, made.boot, items);
+                self.end_stages(was_halted, made.boot, lines);
+                self.note_exit(&start, items);
             }
         }
     }

@@ -1,4 +1,4 @@
-ghost use Rattle.std.specs.Prelude.{◌≡◌, [], ◌<◌};
+ghost use Rattle.std.specs.Prelude.{◌≡◌, [], ◌<◌, ◌≤◌, length};
 ghost use Rattle.chip_words.specs.Script.{run};
 ghost use Rattle.chip_core.specs.Entry.{entry};
 
@@ -15,6 +15,7 @@ pub fn enter<B: Bus>(regs: &mut Regs, bus: &mut B, vector: u32)
     requires place { vector < 0x100000 }
     ensures registers { regs.new ≡ (run Agent.Entry (entry vector regs.old) (B.part bus.old)).value }
     ensures part { B.part bus.new ≡ (run Agent.Entry (entry vector regs.old) (B.part bus.old)).part }
+    ensures count { length (B.part bus.new).accesses ≤ 3 }
 {
     let pc = regs.get(PC);
     let status = regs.get(SR);

@@ -2,16 +2,18 @@
 #![tactic(auto)]
 
 use arrayvec::ArrayVec;
-use trace_print::TraceItem;
+use trace_print::{Item, TraceItem};
 
 mod boots;
 mod chips;
 mod debugger;
 mod entries;
 mod images;
+mod items;
 mod lines;
 mod owners;
 mod pin_lines;
+mod steps;
 mod turns;
 mod views;
 
@@ -20,3 +22,6 @@ pub use views::View;
 
 /// The lines of one tick, in their order.
 pub type Lines = ArrayVec<TraceItem, 32>;
+
+/// The items of one tick, in their order.
+pub type Items = ArrayVec<Item, 64>;

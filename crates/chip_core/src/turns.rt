@@ -1,13 +1,15 @@
 //! The turn of the bus owner.
 
-ghost use Rattle.std.specs.Prelude.{◌≡◌, ◌<◌};
+ghost use Rattle.std.specs.Prelude.{◌≡◌, ◌<◌, Some};
+ghost use Rattle.chip_words.specs.Causes.{least_cause, lesser_cause};
+ghost use Rattle.chip_core.specs.Steps.{HasStep, IsStepOf};
 ghost use Rattle.chip_core.specs.Owners.{IsChannel};
-ghost use Rattle.chip_core.specs.Turns.{accepted_by, entered, free_turn, instructed, instruction_ended, is_off as is_off_state, owned, owner_of, processor_turn, rested_by, step_owned, takes_interrupts as takes_interrupts_state, transfer_turn};
+ghost use Rattle.chip_core.specs.Turns.{accepted_by, entered, free_turn, instructed, instruction_ended, is_off as is_off_state, owned, owner_of, processor_turn, reserved_cause, rested_by, step_owned, takes_interrupts as takes_interrupts_state, transfer_turn};
 
 use crate::chips::Chip;
 use crate::entries;
-use crate::owners::Owner;
-use boot_code::BootStep;
+use crate::owners::{Made, Owner};
+use crate::steps::Step;
 use chip_words::RESERVED_WORD;
 use cpux_extended::{Outcome, step};
 use interrupt_reset::best;
@@ -40,22 +42,28 @@ impl Chip {
         }
     }
 
-    /// The turn of the owner of the bus, which gives the step of a boot.
-    #[tactic(auto, unfolding(crate::specs::Turns::owned, crate::specs::Turns::step_owned))]
-    pub(crate) fn own(&mut self, owner: Owner) -> Option<BootStep>
+    /// The turn of the owner of the bus, with the step that the processor or a boot made in it.
+    #[tactic(auto, using(crate::proofs::StepEnds::transfer_is_no_step), unfolding(crate::specs::Turns::owned, crate::specs::Turns::step_owned))]
+    pub(crate) fn own(&mut self, owner: Owner) -> Made
         requires channel { IsChannel owner }
         ensures chip { self.new ≡ (owned owner self.old).chip }
-        ensures step { result ≡ step_owned owner self.old }
+        ensures step { result.step ≡ (owned owner self.old).step }
+        ensures boot { result.boot ≡ step_owned owner self.old }
+        ensures made { HasStep result.step self.new }
     {
         self.rest_channels(&owner);
+        let mut made = Made {
+            step: None,
+            boot: None,
+        };
         match &owner {
             Owner::Nobody => {}
-            Owner::Boot(boot) => return Some(self.step_boot(*boot)),
+            Owner::Boot(boot) => made.boot = Some(self.step_boot(*boot)),
             Owner::SecondTick => self.second_tick = false,
             Owner::Transfer(channel) => self.transfer(*channel),
-            Owner::Processor => self.turn(),
+            Owner::Processor => made.step = self.turn(),
         }
-        None
+        made
     }
 
     /// Lowers the rests of the channels of DMA, in a tick that DMA doesn't own.
@@ -81,34 +89,44 @@ impl Chip {
         self.second_tick = true;
     }
 
-    /// The processor's turn.
+    /// The processor's turn, with the step that it made.
     #[tactic(auto, unfolding(crate::specs::Turns::processor_turn))]
-    fn turn(&mut self)
+    fn turn(&mut self) -> Option<Step>
         ensures chip { self.new ≡ (processor_turn self.old).chip }
+        ensures step { result ≡ (processor_turn self.old).step }
+        ensures made { HasStep result self.new }
     {
         if self.busy > 0 {
             self.busy -= 1;
+            None
         } else if self.pending && !self.is_private() {
             self.halted = true;
             self.pending = false;
-        } else if !self.halted && !self.dead {
-            self.turn_freely();
+            None
+        } else if self.halted || self.dead {
+            None
+        } else {
+            self.turn_freely()
         }
     }
 
     /// The turn of a processor that isn't busy: an interrupt, or an instruction.
-    fn turn_freely(&mut self)
+    fn turn_freely(&mut self) -> Option<Step>
         ensures chip { self.new ≡ (free_turn (accepted_by self.old) self.old).chip }
+        ensures step { result ≡ (free_turn (accepted_by self.old) self.old).step }
+        ensures made { HasStep result self.new }
     {
         match best(
             self.fabric.lines(),
             self.takes_interrupts(),
             self.fabric.nmi,
         ) {
-            Some(vector) => self.enter(vector),
+            Some(vector) => Some(self.enter(vector)),
             None => {
-                if !self.is_off() {
-                    self.instruct();
+                if self.is_off() {
+                    None
+                } else {
+                    Some(self.instruct())
                 }
             }
         }
@@ -127,13 +145,21 @@ impl Chip {
     }
 
     /// Executes one instruction.
-    #[tactic(auto, unfolding(crate::specs::Turns::instructed))]
-    fn instruct(&mut self)
+    #[tactic(auto, using(crate::proofs::StepEnds::step_ended_few), unfolding(crate::specs::Turns::instructed))]
+    fn instruct(&mut self) -> Step
         ensures chip { self.new ≡ (instructed self.old).chip }
+        ensures step { Some result ≡ (instructed self.old).step }
+        ensures made { IsStepOf self.new result }
     {
         self.fabric.begin_step();
         let outcome = step(&mut self.regs, &mut self.fabric);
+        let noted = self.fabric.noted();
         self.end_instruction(outcome);
+        Step {
+            vector: None,
+            noted,
+            cause: self.cause_of(outcome),
+        }
     }
 
     /// Ends the step of an instruction, by how it ended.
@@ -153,16 +179,35 @@ impl Chip {
         self.fabric.end_step();
     }
 
+    /// The least cause that an instruction requested, by how it ended: its accesses may have requested one.
+    fn cause_of(&self, outcome: Outcome) -> Option<u8>
+        ensures cause { result
+            ≡ lesser_cause (least_cause (self.now).bus.causes) (reserved_cause outcome) }
+    {
+        match (self.fabric.caused(), outcome) {
+            (None, Outcome::Reserved) => Some(RESERVED_WORD),
+            (caused, _) => caused,
+        }
+    }
+
     /// Enters the interrupt of a vector.
-    #[tactic(auto, unfolding(crate::specs::Turns::entered))]
-    fn enter(&mut self, vector: u32)
+    #[tactic(auto, using(crate::proofs::StepEnds::step_ended_few), unfolding(crate::specs::Turns::entered))]
+    fn enter(&mut self, vector: u32) -> Step
         requires place { vector < 0x100000 }
         ensures chip { self.new ≡ (entered vector self.old).chip }
+        ensures step { Some result ≡ (entered vector self.old).step }
+        ensures made { IsStepOf self.new result }
     {
         self.fabric.begin_step();
         entries::enter(&mut self.regs, &mut self.fabric, vector);
         self.busy = BUSY_ENTRY + u64::from(self.fabric.waits());
+        let noted = self.fabric.noted();
         self.fabric.entered(vector);
         self.fabric.end_step();
+        Step {
+            vector: Some(vector),
+            noted,
+            cause: self.fabric.caused(),
+        }
     }
 }

@@ -1,6 +1,6 @@
 use super::cases::{BLINK, SIGNED, STRUCTURE, VECTOR, WAIT, image, run_under, traces};
 use crate::Status;
-use chip_core::{Chip, Lines};
+use chip_core::{Chip, Items, Lines};
 use elf_image::read_image;
 use std::test::Fail;
 use stimulus::read_bench;
@@ -179,9 +179,10 @@ fn an_erase_that_is_cut_leaves_fram_blank(rt: HostRuntime) -> Result<(), Fail> {
     )?;
     let mut chip = Chip::build(alloc, &image, &bench)?;
     let mut lines = Lines::new();
+    let mut items = Items::new();
     for _ in 0..20_001 {
         if chip.view().tick < 40_000 {
-            chip.tick(&bench, &mut lines);
+            chip.tick(&bench, &mut lines, &mut items);
         }
     }
     // Power is off, the erase has begun, and what it hasn't reached stands.
@@ -193,7 +194,7 @@ fn an_erase_that_is_cut_leaves_fram_blank(rt: HostRuntime) -> Result<(), Fail> {
     // Power comes on in tick 20004, and the erase ends 32,514 ticks later, with nothing sealed or saved.
     for _ in 0..33_000 {
         if chip.view().tick < 9_999_999 {
-            chip.tick(&bench, &mut lines);
+            chip.tick(&bench, &mut lines, &mut items);
         }
     }
     let view = chip.view();
