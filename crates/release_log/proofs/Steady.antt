@@ -60,11 +60,11 @@ written_in-requested (Some of.Encap) units at size value = refl
 written_in-requested None units at size value = refl
 
 -- what the peripherals leave of the requests, and the cause that they ask for
-record AsksHigh (units : Units) (reply : Reply) : Type 0 where
+pub record AsksHigh (units : Units) (reply : Reply) : Type 0 where
   pub same : ((reply.units).sys).requested ≡ (units.sys).requested
   pub high : IsHigh reply.cause
 
-periph-AsksHigh :
+pub periph-AsksHigh :
     (units : Units) (kind : Kind) (at : ℕ) (size : Size) (value : ℕ) →
     AsksHigh units (periph units kind at size value)
 unfolding periph units_touched units_written

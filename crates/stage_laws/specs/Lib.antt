@@ -1,0 +1,12 @@
+pub mod Seen
+pub mod Ready
+pub mod Stages
+pub mod PrivateTurns
+pub mod Resets
+pub mod Cuts
+pub mod Alike
+pub mod Beginnings
+pub mod PublicTurns
+pub mod Transfers
+pub mod BootSteps
+pub mod Openings
