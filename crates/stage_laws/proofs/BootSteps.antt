@@ -270,7 +270,7 @@ turn_lines-face was_halted step chip =
 
 -- ---- the law
 
-booting-public : (place : Place) (chip : State) → chip.boot ≡ Some place → is_private chip ≡ false
+pub booting-public : (place : Place) (chip : State) → chip.boot ≡ Some place → is_private chip ≡ false
 unfolding is_private
 booting-public place chip boot =
     let up : is_up chip ≡ false = ap (λ boot. chip.powered && is_none boot) boot ∙ and-false chip.powered in

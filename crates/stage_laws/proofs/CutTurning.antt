@@ -47,13 +47,11 @@ AreWithin high (entry ∷ entries) = (rank entry.kind ≤ high) × AreWithin hig
 abbrev pub AreReads : List Access → Type 0
 AreReads entries = AreWithin 1 entries
 
-orderly-lower :
-    (low lower : ℕ) (entries : List Access) → lower ≤ low → AreOrderly low entries → AreOrderly lower entries
+orderly-lower : (low lower : ℕ) (entries : List Access) → lower ≤ low → AreOrderly low entries → AreOrderly lower entries
 orderly-lower low lower [] l are = tt
 orderly-lower low lower (entry ∷ entries) l are = (omega (arith, are.0), are.1)
 
-within-higher :
-    (high higher : ℕ) (entries : List Access) → high ≤ higher → AreWithin high entries → AreWithin higher entries
+within-higher : (high higher : ℕ) (entries : List Access) → high ≤ higher → AreWithin high entries → AreWithin higher entries
 within-higher high higher [] l are = tt
 within-higher high higher (entry ∷ entries) l are = (omega (arith, are.0), within-higher high higher entries l are.1)
 
@@ -109,8 +107,7 @@ pub released-orderly :
 released-orderly seal low [] are = tt
 released-orderly seal low (entry ∷ entries) are =
     by_test (is_released seal entry)
-    (orderly-lower (rank entry.kind) low (released seal entries) are.0
-    (released-orderly seal (rank entry.kind) entries are.1))
+    (orderly-lower (rank entry.kind) low (released seal entries) are.0 (released-orderly seal (rank entry.kind) entries are.1))
     (released-orderly seal (rank entry.kind) entries are.1)
   where
     kept : List Access
@@ -184,8 +181,7 @@ pub record LeavesLasting (before after : BusPart) : Type 0 where
   pub first : (((after.units).ports).first).levels ≡ (((before.units).ports).first).levels
   pub second : (((after.units).ports).second).levels ≡ (((before.units).ports).second).levels
 
-pub leaves-lasts :
-    (chip : State) (before after : BusPart) → LeavesLasting before after → lasts chip after ≡ lasts chip before
+pub leaves-lasts : (chip : State) (before after : BusPart) → LeavesLasting before after → lasts chip after ≡ lasts chip before
 leaves-lasts chip before after leaves =
     let made : Seal → List ℕ → ℕ → ℕ → ℕ → Lasting = λ kept memory fill first second. record {
       kept = kept;
@@ -226,8 +222,7 @@ ports-TouchesNone units at = record {
   first =
       either_holds (λ pair. pair.levels ≡ (units.ports).first.levels) (nat_lt at PBIN) _ (units.ports).first refl refl;
   second =
-      either_holds (λ pair. pair.levels ≡ (units.ports).second.levels) (nat_lt at PBIN) (units.ports).second _
-      refl refl;
+      either_holds (λ pair. pair.levels ≡ (units.ports).second.levels) (nat_lt at PBIN) (units.ports).second _ refl refl;
 }
 
 touched-TouchesNone : (unit : Option UnitName) (units : Units) (at : ℕ) → TouchesNone units (touched_in unit units at)

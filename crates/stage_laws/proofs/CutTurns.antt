@@ -148,8 +148,7 @@ entry-EndsInRead vector registers part is =
     (released-last part.kept pushed.accesses last (vector-open part.kept vector is) refl (omega arith))
   where
     first : Accessed
-    first =
-        access Entry Write (before (slice_index registers SP)) Word (slice_index registers PC % 0x10000) (begun part)
+    first = access Entry Write (before (slice_index registers SP)) Word (slice_index registers PC % 0x10000) (begun part)
 
     second : Accessed
     second = access Entry Write (below_two registers) Word (status_on_stack registers) first.part

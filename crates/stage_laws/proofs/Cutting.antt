@@ -32,8 +32,7 @@ use Rattle.stage_laws.specs.Stages.{turned}
 both_are : (x y : ℕ) (xs ys : List ℕ) → x ≡ y → xs ≡ ys → x ∷ xs ≡ y ∷ ys
 both_are x y xs ys first rest = cc
 
-hidden_byte :
-    (inside : Bool) (x y : ℕ) → (inside ≡ false → x ≡ y) → (if inside then 0 else x) ≡ (if inside then 0 else y)
+hidden_byte : (inside : Bool) (x y : ℕ) → (inside ≡ false → x ≡ y) → (if inside then 0 else x) ≡ (if inside then 0 else y)
 hidden_byte true x y same = refl
 hidden_byte false x y same = same refl
 

@@ -33,8 +33,7 @@ pub record Joins (start : List Bool) (part : BusPart) : Type 0 where
   pub requested : requests part ≡ union start part.causes
   pub count : length start ≡ length part.causes
 
-requested-Joins :
-    (start : List Bool) (cause : Option ℕ) (part : BusPart) → Joins start part → Joins start (requested cause part)
+requested-Joins : (start : List Bool) (cause : Option ℕ) (part : BusPart) → Joins start part → Joins start (requested cause part)
 requested-Joins start cause part joins = record {
   requested = ap (with_cause cause) joins.requested ∙ union-with_cause cause start part.causes joins.count;
   count = joins.count ∙ sym (with_cause-length cause part.causes);
@@ -73,8 +72,7 @@ access-Joins :
     Joins start part → Joins start (access who kind at size value part).part
 access-Joins start who kind at size value part joins = by_absence (is_absent kind part) refl
   where
-    by_kind :
-        (kind : Kind) → Joins start (access_present who kind (aligned size at) size value (counted kind part)).part
+    by_kind : (kind : Kind) → Joins start (access_present who kind (aligned size at) size value (counted kind part)).part
     by_kind Write =
         present-Joins start who Write (aligned size at) size value (numbered part)
         (record { requested = joins.requested; count = joins.count })

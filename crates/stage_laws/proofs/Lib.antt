@@ -1,5 +1,5 @@
-pub mod Unions
 pub mod Readying
+pub mod Unions
 pub mod Joining
 pub mod Telling
 pub mod Fetching
@@ -18,3 +18,4 @@ pub mod PublicTurns
 pub mod Transfers
 pub mod BootSteps
 pub mod Openings
+pub mod Ticking

@@ -4,7 +4,7 @@ use Rattle.std.specs.Prelude.{Option, Some, None, is_none, bit_and, map}
 use Rattle.std.specs.List.{range_with_len}
 use Rattle.std.proofs.lemmas.Bool.Decides.{nat_tests}
 use Rattle.std.proofs.lemmas.Grind.{common_steps, elements, get_or_default_zero}
-use Rattle.std.proofs.lemmas.List.{length-set, same_lists}
+use Rattle.std.proofs.lemmas.List.{length-replicate, length-set, same_lists}
 use Rattle.std.proofs.lemmas.List.FromFn.{get_or-map-range_with_len, length-map-range_with_len}
 use Rattle.chip_words.specs.declared.seals.Seal.{Seal}
 use Rattle.chip_words.specs.declared.sizes.Size.TheVariants.{Word}
@@ -48,7 +48,6 @@ use Rattle.stage_laws.specs.Seen.{IsReady, Left, Seen, always_public, left, seen
 use Rattle.stage_laws.specs.Stages.{tick_items, turned}
 use Rattle.stage_laws.proofs.PrivateTurning.{private-up, processor_turn-IsLeft, rested, rested-IsReady, rested-private, seen-owner}
 use Rattle.stage_laws.proofs.Telling.{StepFetches, Told, Way, told-tick, told_by, way_of}
-use Rattle.stage_laws.proofs.Unions.{no_causes-count}
 
 -- ---- the reset vector is never sealed
 
@@ -60,8 +59,7 @@ second-open : (seal : Seal) → is_in seal 0xFFFF ≡ false
 unfolding is_in
 second-open seal = grind (arith, nat_tests)
 
-vector-hidden :
-    (seal : Seal) (memory : List ℕ) → loaded memory RESET_VECTOR Word ≡ loaded (hidden seal memory) RESET_VECTOR Word
+vector-hidden : (seal : Seal) (memory : List ℕ) → loaded memory RESET_VECTOR Word ≡ loaded (hidden seal memory) RESET_VECTOR Word
 unfolding loaded
 vector-hidden seal memory =
     let first = hidden-get seal memory 0xFFFE (first-open seal) in
@@ -97,8 +95,7 @@ rest_by (Some cause) left = record {
 }
 rest_by None left = record { chip = left.chip; power = left.power }
 
-status-reset :
-    (registers : List ℕ) (vector : ℕ) → slice_index (with_register (with_register registers SR 0) PC vector) SR ≡ 0
+status-reset : (registers : List ℕ) (vector : ℕ) → slice_index (with_register (with_register registers SR 0) PC vector) SR ≡ 0
 status-reset registers vector = grind (arith, elements, common_steps)
 
 cause-rest :
@@ -152,8 +149,7 @@ rests-same a b count_a count_b same =
 all-registers : (registers : List ℕ) → length registers ≡ 16 → all_registers registers ≡ registers
 unfolding all_registers
 all-registers registers count =
-    same_lists (map (slice_index registers) (range_with_len 0 16)) registers
-    (length-map-range_with_len (slice_index registers) 0 16 ∙ sym count)
+    same_lists (map (slice_index registers) (range_with_len 0 16)) registers (length-map-range_with_len (slice_index registers) 0 16 ∙ sym count)
     (λ k d within.
     let few : k < 16 = omega (arith, within, length-map-range_with_len (slice_index registers) 0 16) in
     get_or-map-range_with_len (slice_index registers) 0 16 k k d few (omega arith)
@@ -275,8 +271,12 @@ private-IsOwned chip is private =
 
 -- ---- how two ticks end
 
+no_causes-count : length no_causes ≡ 65
+unfolding no_causes
+no_causes-count = length-replicate 65 false
+
 -- what the reset shows goes by what is public
-pins-public : (chip : State) → pins_of chip ≡ pins_of (always_public chip)
+pub pins-public : (chip : State) → pins_of chip ≡ pins_of (always_public chip)
 unfolding pins_of
 pins-public chip = refl
 

@@ -163,8 +163,7 @@ told-accesses seal (entry ∷ accesses) t are =
     by_tests rest true true e = rest
     by_tests rest true false e =
         ap (tells (access_item entry)) rest
-        ∙ tells-access entry.done entry.kind entry.at entry.size entry.value (with_accesses (released seal accesses) t)
-        are.0
+        ∙ tells-access entry.done entry.kind entry.at entry.size entry.value (with_accesses (released seal accesses) t) are.0
         ∙ ap (λ done. with_access (record (told entry) { done = done }) (with_accesses (released seal accesses) t))
         (sym e)
     by_tests rest false true e = rest
@@ -221,9 +220,7 @@ told-flags noted t none = by_test (noted == 0) refl
         zero-noted e = grind (arith, nat_tests)
     by_test false e = refl
 
-told-entry :
-    (vector : Option ℕ) (t : Told) → t.vector ≡ None →
-    told_before (entry_items vector) t ≡ record t { vector = vector }
+told-entry : (vector : Option ℕ) (t : Told) → t.vector ≡ None → told_before (entry_items vector) t ≡ record t { vector = vector }
 told-entry (Some vector) t none = refl
 told-entry None t none = ap (λ vector. record t { vector = vector }) none
 
@@ -260,8 +257,7 @@ way_of start after =
     if has_left start after
     then Some (record { registers = all_registers after.registers; busy = after.busy }) else None
 
-told-exit :
-    (start : Start) (after : State) → told_before (exit_items start after) (only None) ≡ only (way_of start after)
+told-exit : (start : Start) (after : State) → told_before (exit_items start after) (only None) ≡ only (way_of start after)
 told-exit start after =
     elim (has_left start after) as
     (λ v. told_before (if v then item.Exit (all_registers after.registers) after.busy ∷ [] else []) (only None)

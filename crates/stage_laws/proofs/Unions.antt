@@ -1,13 +1,8 @@
 -- Causes that join others.
 use Rattle.std.proofs.Common.{◌≡◌, ◌<◌, ◌≤◌, ◌+◌, ℕ, List, [], ◌∷◌, Bool, true, false, ◌||◌, length, slice_set, zero, suc, arith, refl, ap, sym, ◌∙◌, replicate}
 use Rattle.std.specs.Prelude.{Option, Some, None, IfSome, min}
-use Rattle.std.proofs.lemmas.List.{length-replicate, length-set}
+use Rattle.std.proofs.lemmas.List.{length-set}
 use Rattle.chip_words.specs.Causes.{least_cause, least_from, lesser_cause, no_causes, with_cause}
-
--- there is one entry for each cause
-pub no_causes-count : length no_causes ≡ 65
-unfolding no_causes
-no_causes-count = length-replicate 65 false
 
 -- the causes of either of two lists of equal length
 abbrev pub union : List Bool → List Bool → List Bool
@@ -38,18 +33,14 @@ pub union-none : (xs : List Bool) → union xs no_causes ≡ xs
 unfolding no_causes
 union-none xs = union-replicate xs 65
 
-union-set :
-    (xs ys : List Bool) (k : ℕ) → length xs ≡ length ys →
-    slice_set (union xs ys) k true ≡ union xs (slice_set ys k true)
+union-set : (xs ys : List Bool) (k : ℕ) → length xs ≡ length ys → slice_set (union xs ys) k true ≡ union xs (slice_set ys k true)
 union-set [] [] k e = refl
 union-set [] (y ∷ ys) k e = absurd (omega arith)
 union-set (x ∷ xs) [] k e = absurd (omega arith)
 union-set (x ∷ xs) (y ∷ ys) zero e = same_cons _ _ _ _ (sym (or-true x)) refl
 union-set (x ∷ xs) (y ∷ ys) (suc k) e = same_cons _ _ _ _ refl (union-set xs ys k (suc-same _ _ e))
 
-union-set_first :
-    (xs ys : List Bool) (k : ℕ) → length xs ≡ length ys →
-    slice_set (union xs ys) k true ≡ union (slice_set xs k true) ys
+union-set_first : (xs ys : List Bool) (k : ℕ) → length xs ≡ length ys → slice_set (union xs ys) k true ≡ union (slice_set xs k true) ys
 union-set_first [] ys k e = refl
 union-set_first (x ∷ xs) [] k e = absurd (omega arith)
 union-set_first (x ∷ xs) (y ∷ ys) zero e = refl
@@ -60,15 +51,11 @@ with_cause-length (Some cause) xs = length-set xs cause true
 with_cause-length None xs = refl
 
 -- a cause that joins a union joins either list
-pub union-with_cause :
-    (cause : Option ℕ) (xs ys : List Bool) → length xs ≡ length ys →
-    with_cause cause (union xs ys) ≡ union xs (with_cause cause ys)
+pub union-with_cause : (cause : Option ℕ) (xs ys : List Bool) → length xs ≡ length ys → with_cause cause (union xs ys) ≡ union xs (with_cause cause ys)
 union-with_cause (Some cause) xs ys e = union-set xs ys cause e
 union-with_cause None xs ys e = refl
 
-pub union-with_cause_first :
-    (cause : Option ℕ) (xs ys : List Bool) → length xs ≡ length ys →
-    with_cause cause (union xs ys) ≡ union (with_cause cause xs) ys
+pub union-with_cause_first : (cause : Option ℕ) (xs ys : List Bool) → length xs ≡ length ys → with_cause cause (union xs ys) ≡ union (with_cause cause xs) ys
 union-with_cause_first (Some cause) xs ys e = union-set_first xs ys cause e
 union-with_cause_first None xs ys e = refl
 
@@ -95,9 +82,7 @@ lesser-second : (n : ℕ) (cause : Option ℕ) → IsFrom n cause → lesser_cau
 lesser-second n (Some cause) h = let e : min cause n ≡ n = omega arith in ap Some e
 lesser-second n None h = refl
 
-least_from-union :
-    (n : ℕ) (xs ys : List Bool) → length xs ≡ length ys → least_from n (union xs ys) ≡ lesser_cause (least_from n xs)
-    (least_from n ys)
+least_from-union : (n : ℕ) (xs ys : List Bool) → length xs ≡ length ys → least_from n (union xs ys) ≡ lesser_cause (least_from n xs) (least_from n ys)
 least_from-union n [] [] e = refl
 least_from-union n [] (y ∷ ys) e = absurd (omega arith)
 least_from-union n (x ∷ xs) [] e = absurd (omega arith)
@@ -106,32 +91,22 @@ least_from-union n (true ∷ xs) (false ∷ ys) e = sym (lesser-first n _ (IsFro
 least_from-union n (false ∷ xs) (true ∷ ys) e = sym (lesser-second n _ (IsFrom-less n _ (least_from-IsFrom (n + 1) xs)))
 least_from-union n (false ∷ xs) (false ∷ ys) e = least_from-union (n + 1) xs ys (suc-same _ _ e)
 
-pub least_cause-union :
-    (xs ys : List Bool) → length xs ≡ length ys → least_cause (union xs ys) ≡ lesser_cause (least_cause xs)
-    (least_cause ys)
+pub least_cause-union : (xs ys : List Bool) → length xs ≡ length ys → least_cause (union xs ys) ≡ lesser_cause (least_cause xs) (least_cause ys)
 least_cause-union xs ys e = least_from-union 0 xs ys e
 
 -- one more cause, of which the list has the number
-least_from-set :
-    (n : ℕ) (xs : List Bool) (k : ℕ) → k < length xs →
-    least_from n (slice_set xs k true) ≡ lesser_cause (least_from n xs) (Some (n + k))
+least_from-set : (n : ℕ) (xs : List Bool) (k : ℕ) → k < length xs → least_from n (slice_set xs k true) ≡ lesser_cause (least_from n xs) (Some (n + k))
 least_from-set n [] k l = absurd (omega arith)
 least_from-set n (true ∷ xs) zero l = let e : min n (n + 0) ≡ n = omega arith in ap Some (sym e)
 least_from-set n (true ∷ xs) (suc k) l = let e : min n (n + suc k) ≡ n = omega arith in ap Some (sym e)
-least_from-set n (false ∷ xs) zero l =
-    let e : n + 0 ≡ n = omega arith in
-    rw e (sym (lesser-second n _ (IsFrom-less n _ (least_from-IsFrom (n + 1) xs))))
-least_from-set n (false ∷ xs) (suc k) l =
-    let e : n + suc k ≡ n + 1 + k = omega arith in
-    rw e (least_from-set (n + 1) xs k (omega arith))
+least_from-set n (false ∷ xs) zero l = let e : n + 0 ≡ n = omega arith in rw e (sym (lesser-second n _ (IsFrom-less n _ (least_from-IsFrom (n + 1) xs))))
+least_from-set n (false ∷ xs) (suc k) l = let e : n + suc k ≡ n + 1 + k = omega arith in rw e (least_from-set (n + 1) xs k (omega arith))
 
 pub lesser-None : (cause : Option ℕ) → lesser_cause cause None ≡ cause
 lesser-None (Some cause) = refl
 lesser-None None = refl
 
-pub least_cause-with_cause :
-    (cause : Option ℕ) (xs : List Bool) → IfSome cause (λ k. k < length xs) →
-    least_cause (with_cause cause xs) ≡ lesser_cause (least_cause xs) cause
+pub least_cause-with_cause : (cause : Option ℕ) (xs : List Bool) → IfSome cause (λ k. k < length xs) → least_cause (with_cause cause xs) ≡ lesser_cause (least_cause xs) cause
 least_cause-with_cause (Some k) xs within =
     let e : 0 + k ≡ k = omega arith in
     rw e at (least_from-set 0 xs k within)

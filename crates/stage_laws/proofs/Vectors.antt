@@ -86,8 +86,7 @@ accepted-vector lines gie nmi =
     let holds : Option ℕ → Type 0 = λ vector. IfSome vector IsVector in
     let some : List ℕ = standing lines 0 vectors in
     either_holds holds nmi (Some NMI_VECTOR) (if gie then greatest some else None) (vector-at NMI_VECTOR refl refl)
-    (either_holds holds gie (greatest some) None
-    (greatest-vector some (standing-vectors lines 0 vectors all-vectors)) tt)
+    (either_holds holds gie (greatest some) None (greatest-vector some (standing-vectors lines 0 vectors all-vectors)) tt)
 
 -- ---- ports
 

@@ -36,8 +36,8 @@ lasting chip = record {
 }
 
 -- Two chips with equal public parts, in ticks that are cut and have equal items: the processor's turn in private phase
--- leaves equal what outlasts. Neither the cuts nor the counts of writes need be equal, since a write that is absent is
--- no item; and one may be an entry where the other is an instruction, since a cut tick doesn't tell which.
+-- leaves equal what outlasts. Neither the cuts nor the counts of writes need be equal, since a write that is absent is no
+-- item; and one may be an entry where the other is an instruction, since a cut tick doesn't tell which.
 abbrev pub CutTurnsAgree : Type 0
 CutTurnsAgree =
     (one other : ℕ) (a b : State) → IsReady a → IsReady b → IsPrivateTurn a → seen a ≡ seen b →

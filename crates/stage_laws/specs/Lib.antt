@@ -10,3 +10,4 @@ pub mod PublicTurns
 pub mod Transfers
 pub mod BootSteps
 pub mod Openings
+pub mod OneTick

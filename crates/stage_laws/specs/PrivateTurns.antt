@@ -7,8 +7,8 @@ use Rattle.chip_core.specs.Turns.{owner_of, step_owned}
 use Rattle.stage_laws.specs.Seen.{IsReady, left, seen}
 use Rattle.stage_laws.specs.Stages.{IsPrivateTurn, tick_items, turned}
 
--- Two chips with equal public parts, in ticks with equal items: the turn leaves equal what is public in private phase,
--- but for the phase and the causes that are requested, of which it leaves the least one equal.
+-- Two chips with equal public parts, in ticks with equal items: the turn leaves equal what is public in private phase, but
+-- for the phase and the causes that are requested, of which it leaves the least one equal.
 abbrev pub PrivateTurnsAgree : Type 0
 PrivateTurnsAgree =
     (a b : State) → IsReady a → IsReady b → IsPrivateTurn a → seen a ≡ seen b →

@@ -18,8 +18,8 @@ pub record EndAlike (a b : Stages) : Type 0 where
       ≡ restart_lines b.boot (taken_cause (b.turn).chip) b.after
   pub pins : pins_of a.after ≡ pins_of b.after
 
--- Behind a turn in private phase, of the processor or of DMA: what it left equal, and equal items of the tick, decide
--- how the tick ends. The items tell the way out of private phase, with the registers.
+-- Behind a turn in private phase, of the processor or of DMA: what it left equal, and equal items of the tick, decide how
+-- the tick ends. The items tell the way out of private phase, with the registers.
 abbrev pub PrivateTicksEndAlike : Type 0
 PrivateTicksEndAlike =
     (a b : State) → IsReady a → IsReady b → is_private a ≡ true → is_private b ≡ true →

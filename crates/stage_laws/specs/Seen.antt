@@ -14,13 +14,13 @@ use Rattle.chip_core.specs.Tick.{taken_cause}
 
 -- The public part of a chip.
 
--- what is public in either phase: all but the bytes that stay secret, what stands within a tick alone, the registers,
--- and how long the processor is busy
+-- what is public in either phase: all but the bytes that stay secret, what stands within a tick alone, the registers, and
+-- how long the processor is busy
 abbrev pub always_public : State → State
 always_public chip = record chip { bus = public_part chip.bus; registers = []; busy = 0 }
 
--- the public part: with the phase, with the bits of SR that switch clocks and the processor, and in public phase with
--- all registers and with how long the processor is busy
+-- the public part: with the phase, with the bits of SR that switch clocks and the processor, and in public phase with all
+-- registers and with how long the processor is busy
 pub record Seen : Type 0 where
   pub private : Bool
   pub chip : State
@@ -60,9 +60,8 @@ left chip = record {
 
 -- When the owner of the bus acts.
 
--- The registers and the borders of the kept set are of their kind, the causes that are requested have their number,
--- nothing is noted and nothing listed. Once a boot is done the kept set is the seal; and an erase goes on at a word of
--- FRAM.
+-- The registers and the borders of the kept set are of their kind, the causes that are requested have their number, nothing
+-- is noted and nothing listed. Once a boot is done the kept set is the seal; and an erase goes on at a word of FRAM.
 pub record IsReady (chip : State) : Type 0 where
   pub registers : AreRegisters chip.registers
   pub borders : HasBorders chip.bus.kept

@@ -1,16 +1,18 @@
-//! Laws of the stages of a tick, over two chips that have the same public part: what each stage leaves of it, where the
-//! items are the same.
+//! Laws of the stages of a tick, over two chips that have the same public part: what each stage leaves of it, where what
+//! it gives away is the same.
 //!
 //! The contract of each function is a law. The functions do nothing.
 #![tactic(auto)]
 
 mod cuts;
+mod one_tick;
 mod private_turns;
 mod public_laws;
 mod ready;
 mod resets;
 
 pub use cuts::{cut_turns_agree, cuts_end_alike, public_parts_last};
+pub use one_tick::one_tick_agrees;
 pub use private_turns::{private_turn_shows_nothing, private_turns_agree};
 pub use public_laws::{
     beginnings_see_public, boot_steps_see_public, intervals_tell_all, public_turns_see_public,

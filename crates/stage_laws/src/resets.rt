@@ -1,7 +1,7 @@
 ghost use Rattle.stage_laws.specs.Resets.{PrivateTicksEndAlike, PublicPartsAreLeft, PublicTicksEndAlike};
 
-/// In private phase the reset behind the turn, and the way out that the items tell, leave equal what is public, and
-/// show the same.
+/// In private phase the reset behind the turn, and the way out that the items tell, leave equal what is public, and show
+/// the same.
 #[tactic(auto, using(crate::proofs::Resetting::private_ticks_end_alike))]
 pub fn private_ticks_end_alike()
     ensures { PrivateTicksEndAlike }
