@@ -10,9 +10,10 @@ use Rattle.stimulus.specs.declared.refusals.BenchRefused.{BenchRefused}
 use Rattle.stimulus.specs.Stimulus.{Stimulus, bench_of_file}
 use Rattle.capsule.specs.declared.statuses.Status.{Status}
 use Rattle.capsule.specs.declared.statuses.Status.TheVariants.{Done, Usage, Absent, ReadFault, TooLong, Image, Bench, WriteFault, NoMemory}
+use Rattle.capsule.specs.Releases.{releases_of}
 use Rattle.capsule.specs.Trace.{plain_bench, trace_of}
-use Rattle.capsule.specs.Words.{Request, NoCommand, RunImage}
-use Rattle.capsule.specs.Output.{Plan, Read, Refuse, Write, bench_in_file, bench_limit, image_judged, of_file, outcome, plan_of, run_of, with_image, with_bench}
+use Rattle.capsule.specs.Words.{Request, NoCommand, RunImage, ReleaseImage}
+use Rattle.capsule.specs.Output.{Plan, Read, Refuse, Write, bench_in_file, bench_limit, image_judged, of_file, outcome, plan_of, run_of, run_of_file, with_image, with_bench}
 use Rattle.bench_io.specs.WholeFiles.{ShelfView, IsRead}
 use Rattle.capsule.specs.Call.{SinkView, sink_view, IsBenchRead, IsNoBench, IsNotRead, IsWritten, IsRefusal, IsFollowed, IsDue, CountsFaults, IsCall}
 
@@ -38,20 +39,21 @@ module _ (Kind : Status → Type 0) (of_image : (refusal : ImageRefused) → Kin
   with_bench-refuses (Ok bench) next later = later bench
   with_bench-refuses (Err refusal) next later = of_bench refusal
 
-  run_of-refuses : (image : List Segment) (bench : Option (List ℕ)) → RefusesBy Kind (run_of image bench)
-  run_of-refuses image None = tt
-  run_of-refuses image (Some name) = λ bytes. with_bench-refuses (bench_of_file bytes) (λ stimulus. Write (trace_of stimulus image)) (λ bench. tt)
+  run_of-refuses : (text : Stimulus → List Segment → List ℕ) (image : List Segment) (bench : Option (List ℕ)) → RefusesBy Kind (run_of text image bench)
+  run_of-refuses text image None = tt
+  run_of-refuses text image (Some name) = λ bytes. with_bench-refuses (bench_of_file bytes) (λ stimulus. Write (text stimulus image)) (λ bench. tt)
 
-  with_image-refuses : (found : Result (List Segment) ImageRefused) (bench : Option (List ℕ)) → RefusesBy Kind (with_image found (λ image. run_of image bench))
-  with_image-refuses (Ok image) bench = run_of-refuses image bench
-  with_image-refuses (Err refusal) bench = of_image refusal
+  with_image-refuses : (text : Stimulus → List Segment → List ℕ) (found : Result (List Segment) ImageRefused) (bench : Option (List ℕ)) → RefusesBy Kind (with_image found (λ image. run_of text image bench))
+  with_image-refuses text (Ok image) bench = run_of-refuses text image bench
+  with_image-refuses text (Err refusal) bench = of_image refusal
 
-  run-refuses : (image : List ℕ) (bench : Option (List ℕ)) → RefusesBy Kind (plan_of (RunImage image bench))
-  run-refuses image bench = λ bytes. with_image-refuses (image_of bytes) bench
+  run_of_file-refuses : (text : Stimulus → List Segment → List ℕ) (image : List ℕ) (bench : Option (List ℕ)) → RefusesBy Kind (run_of_file text image bench)
+  run_of_file-refuses text image bench = λ bytes. with_image-refuses text (image_of bytes) bench
 
 plan_of-refuses : (request : Request) → RefusesBy IsJudgement (plan_of request)
 plan_of-refuses NoCommand = tt
-plan_of-refuses (RunImage image bench) = run-refuses IsJudgement (λ refusal. tt) (λ refusal. tt) image bench
+plan_of-refuses (RunImage image bench) = run_of_file-refuses IsJudgement (λ refusal. tt) (λ refusal. tt) trace_of image bench
+plan_of-refuses (ReleaseImage image bench) = run_of_file-refuses IsJudgement (λ refusal. tt) (λ refusal. tt) releases_of image (Some bench)
 
 -- the counts, where a file wasn't read
 not_read-counts : (before after : ShelfView) (name : List ℕ) (limit : ℕ) (sink now : SinkView) (status : Status) → IsNotRead before after name limit status → now ≡ sink → CountsFaults before.faults after.faults sink.faults now.faults status
@@ -150,12 +152,12 @@ followed-usage (Refuse refusal) before after sink now judging (same_shelf, same_
 followed-usage (Write text) before after sink now judging ended = ended.1
 
 -- a run isn't refused for its words
-run-usage : (image : List ℕ) (bench : Option (List ℕ)) (before after : ShelfView) (sink now : SinkView) → IsFollowed (plan_of (RunImage image bench)) before after sink now Usage → ⊥
-run-usage image bench before after sink now followed =
-    followed-usage (plan_of (RunImage image bench)) before after sink now (run-refuses IsOfFile (λ refusal. tt) (λ refusal. tt) image bench) followed
+run-usage : (text : Stimulus → List Segment → List ℕ) (image : List ℕ) (bench : Option (List ℕ)) (before after : ShelfView) (sink now : SinkView) → IsFollowed (run_of_file text image bench) before after sink now Usage → ⊥
+run-usage text image bench before after sink now followed =
+    followed-usage (run_of_file text image bench) before after sink now (run_of_file-refuses IsOfFile (λ refusal. tt) (λ refusal. tt) text image bench) followed
 
-pub run-not_usage : (image : List ℕ) (bench : Option (List ℕ)) (before after : ShelfView) (sink now : SinkView) (status : Status) → IsFollowed (plan_of (RunImage image bench)) before after sink now status → status ≢ Usage
-run-not_usage image bench before after sink now status followed = λ is. run-usage image bench before after sink now (subst (λ s. IsFollowed (plan_of (RunImage image bench)) before after sink now s) is followed)
+pub run-not_usage : (text : Stimulus → List Segment → List ℕ) (image : List ℕ) (bench : Option (List ℕ)) (before after : ShelfView) (sink now : SinkView) (status : Status) → IsFollowed (run_of_file text image bench) before after sink now status → status ≢ Usage
+run-not_usage text image bench before after sink now status followed = λ is. run-usage text image bench before after sink now (subst (λ s. IsFollowed (run_of_file text image bench) before after sink now s) is followed)
 
 -- want of memory may end a plan at once
 pub no_memory : (plan : Plan) (shelf : ShelfView) (sink : SinkView) → IsFollowed plan shelf shelf sink sink NoMemory
@@ -174,26 +176,26 @@ no_bench found status next shelf sink is = absurd is
 pub file-no_bench : (before after : ShelfView) (name bytes : List ℕ) (status : Status) → IsRead before after name bench_limit bytes → IsNoBench (bench_of_file bytes) status → (next : Stimulus → Plan) (sink : SinkView) → IsFollowed (bench_in_file name next) before after sink sink status
 file-no_bench before after name bytes status read is = λ next sink. inr (bytes, after, read, no_bench (bench_of_file bytes) status next after sink is)
 
-module _ (bytes : List ℕ) (bench : Option (List ℕ)) where
+module _ (text : Stimulus → List Segment → List ℕ) (bytes : List ℕ) (bench : Option (List ℕ)) where
   -- the bytes are no image
-  pub no_image : (refusal : ImageRefused) (shelf : ShelfView) (sink : SinkView) → Err refusal ≡ image_of bytes → IsFollowed (image_judged bytes bench) shelf shelf sink sink (Image refusal)
+  pub no_image : (refusal : ImageRefused) (shelf : ShelfView) (sink : SinkView) → Err refusal ≡ image_of bytes → IsFollowed (image_judged text bytes bench) shelf shelf sink sink (Image refusal)
   no_image refusal shelf sink is =
-      subst (λ found. IsFollowed (with_image found (λ image. run_of image bench)) shelf shelf sink sink (Image refusal)) is (refl, refl, inl refl)
+      subst (λ found. IsFollowed (with_image found (λ image. run_of text image bench)) shelf shelf sink sink (Image refusal)) is (refl, refl, inl refl)
 
   -- the bytes are an image
-  pub an_image : (image : List Segment) (before after : ShelfView) (sink now : SinkView) (status : Status) → Ok image ≡ image_of bytes → IsFollowed (run_of image bench) before after sink now status → IsFollowed (image_judged bytes bench) before after sink now status
+  pub an_image : (image : List Segment) (before after : ShelfView) (sink now : SinkView) (status : Status) → Ok image ≡ image_of bytes → IsFollowed (run_of text image bench) before after sink now status → IsFollowed (image_judged text bytes bench) before after sink now status
   an_image image before after sink now status is followed =
-      subst (λ found. IsFollowed (with_image found (λ segments. run_of segments bench)) before after sink now status) is followed
+      subst (λ found. IsFollowed (with_image found (λ segments. run_of text segments bench)) before after sink now status) is followed
 
 -- a run under the bench in a file
-pub under_bench : (image : List Segment) (name : List ℕ) (bench : Stimulus) (before after : ShelfView) (sink now : SinkView) (status : Status) → IsBenchRead before after name bench → IsWritten sink now (trace_of bench image) status → IsFollowed (run_of image (Some name)) before after sink now status
-under_bench image name bench before after sink now status read written =
-    inr (read.bytes, after, read.read, subst (λ found. IsFollowed (with_bench found (λ stimulus. Write (trace_of stimulus image))) after after sink now status) (sym read.judged) (refl, written))
+pub under_bench : (text : Stimulus → List Segment → List ℕ) (image : List Segment) (name : List ℕ) (bench : Stimulus) (before after : ShelfView) (sink now : SinkView) (status : Status) → IsBenchRead before after name bench → IsWritten sink now (text bench image) status → IsFollowed (run_of text image (Some name)) before after sink now status
+under_bench text image name bench before after sink now status read written =
+    inr (read.bytes, after, read.read, subst (λ found. IsFollowed (with_bench found (λ stimulus. Write (text stimulus image))) after after sink now status) (sym read.judged) (refl, written))
 
 -- a run without one
-pub under_plain : (image : List Segment) (bench : Stimulus) (shelf : ShelfView) (sink now : SinkView) (status : Status) → bench ≡ plain_bench → IsWritten sink now (trace_of bench image) status → IsFollowed (run_of image None) shelf shelf sink now status
-under_plain image bench shelf sink now status plain written =
-    (refl, subst (λ b. IsWritten sink now (trace_of b image) status) plain written)
+pub under_plain : (text : Stimulus → List Segment → List ℕ) (image : List Segment) (bench : Stimulus) (shelf : ShelfView) (sink now : SinkView) (status : Status) → bench ≡ plain_bench → IsWritten sink now (text bench image) status → IsFollowed (run_of text image None) shelf shelf sink now status
+under_plain text image bench shelf sink now status plain written =
+    (refl, subst (λ b. IsWritten sink now (text b image) status) plain written)
 
 -- the whole text was written, and no fault was counted
 pub whole_written : (before after : Option (List ℕ)) (faults counted : ℕ) (text : List ℕ) → after ≡ appended before text → counted ≡ faults → sink_view after counted ≡ sink_view (appended before text) faults

@@ -1,29 +1,54 @@
--- The text of a trace, line by line and tick by tick.
-use Rattle.std.proofs.Common.{◌≡◌, ℕ, zero, suc, ◌+◌, ◌-◌, ◌<◌, ◌∙◌, refl, sym, ap, append-nil, List, [], ◌++◌, length, get_or, drop, add-one, arith}
+-- The texts of runs, line by line, row by row and tick by tick.
+use Rattle.std.proofs.Common.{◌≡◌, ℕ, zero, suc, ◌+◌, ◌-◌, ◌*◌, ◌<◌, ◌∙◌, refl, sym, ap, append-nil, List, [], ◌++◌, length, get_or, drop, add-one, arith}
 use Rattle.std.proofs.Math.Seq.{drop-cons}
-use Rattle.trace_print.specs.declared.items.TraceItem.{TraceItem}
+use Rattle.std.specs.List.{flat_map}
 use Rattle.trace_print.specs.Lines.{line_of}
+use Rattle.trace_print.specs.Releases.{open_line_of}
 use Rattle.trace_print.specs.declared.items.TraceItem.TheVariants.{End}
 use Rattle.stimulus.specs.Stimulus.{Stimulus}
 use Rattle.elf_image.specs.Image.{Segment}
 use Rattle.chip_core.specs.State.{State}
 use Rattle.chip_core.specs.FirstState.{first_state}
-use Rattle.chip_core.specs.Lines.{lines_of}
 use Rattle.chip_core.specs.Run.{chip_after}
 use Rattle.chip_core.specs.Tick.{ticked}
-use Rattle.capsule.specs.Trace.{text_of_lines, trace_from, trace_of}
+use Rattle.capsule.specs.Ticks.{text_from}
+use Rattle.capsule.specs.declared.runs.Report.{Report}
+use Rattle.capsule.specs.declared.runs.Report.TheVariants.{Trace, Releases}
+use Rattle.capsule.specs.Output.{report_of, report_text}
+use Rattle.capsule.specs.Releases.{ROW, releases_of, row_of, text_of_rows}
+use Rattle.capsule.specs.Trace.{trace_of}
 
-text_of_lines-drop : (tick : ℕ) (items : List TraceItem) (i : ℕ) (d : TraceItem) → i < length items → text_of_lines tick (drop i items) ≡ line_of tick (get_or items i d) ++ text_of_lines tick (drop (i + 1) items)
-text_of_lines-drop tick items i d h = rw (add-one, drop-cons items i d)
+module _ {Item : Type 0} (text_of : Item → List ℕ) where
+  -- a text is written before those behind it
+  pub texts-drop : (items : List Item) (i : ℕ) (d : Item) → i < length items → flat_map text_of (drop i items) ≡ text_of (get_or items i d) ++ flat_map text_of (drop (i + 1) items)
+  texts-drop items i d h = rw (add-one, drop-cons items i d)
 
--- the item at a place is written before those behind it
-pub text_of_lines-item : (tick : ℕ) (items : List TraceItem) (i : ℕ) (item : TraceItem) → item ≡ get_or items i item → i < length items → text_of_lines tick (drop i items) ≡ line_of tick item ++ text_of_lines tick (drop (i + 1) items)
-text_of_lines-item tick items i item is h =
-    text_of_lines-drop tick items i item h
-    ∙ ap (λ (one : TraceItem). line_of tick one ++ text_of_lines tick (drop (i + 1) items)) (sym is)
+  -- the item at a place is written before those behind it
+  pub texts-item : (items : List Item) (i : ℕ) (item : Item) → item ≡ get_or items i item → i < length items → flat_map text_of (drop i items) ≡ text_of item ++ flat_map text_of (drop (i + 1) items)
+  texts-item items i item is h =
+      texts-drop items i item h
+      ∙ ap (λ (one : Item). text_of one ++ flat_map text_of (drop (i + 1) items)) (sym is)
 
-pub trace_from-more : (end n : ℕ) (bench : Stimulus) (first : State) → n < end → trace_from (end - n) n bench first ≡ text_of_lines n (lines_of bench (chip_after n bench first)) ++ trace_from (end - (n + 1)) (n + 1) bench first
-trace_from-more end n bench first h = let e : end - n ≡ suc (end - (n + 1)) = omega arith in rw (e, add-one) refl
+-- a row is written before those behind it
+pub rows-row : (tick : ℕ) (memory : List ℕ) (count n low at : ℕ) → n < count → at ≡ low + 16 * n → text_of_rows tick memory (count - n) at ≡ open_line_of tick at (row_of memory at) ++ text_of_rows tick memory (count - (n + 1)) (low + 16 * (n + 1))
+rows-row tick memory count n low at h is =
+    let e : count - n ≡ suc (count - (n + 1)) = omega arith in
+    let next : at + ROW ≡ low + 16 * (n + 1) = omega (arith, is) in
+    rw e (ap (λ a. open_line_of tick at (row_of memory at) ++ text_of_rows tick memory (count - (n + 1)) a) next)
+
+module _ (tick_text : Stimulus → ℕ → State → List ℕ) where
+  pub text_from-more : (end n : ℕ) (bench : Stimulus) (first : State) → n < end → text_from tick_text (end - n) n bench first ≡ tick_text bench n (chip_after n bench first) ++ text_from tick_text (end - (n + 1)) (n + 1) bench first
+  text_from-more end n bench first h = let e : end - n ≡ suc (end - (n + 1)) = omega arith in rw (e, add-one) refl
+
+  -- the text of one tick stands before what is left behind it
+  pub tick_parts : (end n : ℕ) (bench : Stimulus) (first chip : State) (text : List ℕ) → n < end → chip ≡ chip_after n bench first → text ≡ tick_text bench n chip → text_from tick_text (end - n) n bench first ≡ text ++ text_from tick_text (end - (n + 1)) (n + 1) bench first
+  tick_parts end n bench first chip text h c t =
+      text_from-more end n bench first h ∙ ap (λ (told : List ℕ). told ++ text_from tick_text (end - (n + 1)) (n + 1) bench first) (sym (t ∙ ap (λ (state : State). tick_text bench n state) c))
+
+  pub end_parts : (end n : ℕ) (bench : Stimulus) (first : State) → n ≡ end → text_from tick_text (end - n) n bench first ≡ line_of end End ++ []
+  end_parts end n bench first h =
+      let e : end - n ≡ zero = omega arith in
+      rw (e, h) (sym (append-nil (line_of end End)))
 
 -- one tick more of a run
 pub chip_after-more : (tick : ℕ) (bench : Stimulus) (first chip after : State) → chip ≡ chip_after tick bench first → after ≡ ticked bench chip → after ≡ chip_after (tick + 1) bench first
@@ -33,17 +58,8 @@ pub ticked-tick : (bench : Stimulus) (chip : State) → (ticked bench chip).tick
 unfolding ticked
 ticked-tick bench chip = refl
 
--- the text of one tick stands before what is left behind it
-pub tick_parts : (end n : ℕ) (bench : Stimulus) (first chip : State) (items : List TraceItem) → n < end → chip ≡ chip_after n bench first → items ≡ lines_of bench chip → trace_from (end - n) n bench first ≡ text_of_lines n items ++ trace_from (end - (n + 1)) (n + 1) bench first
-tick_parts end n bench first chip items h c i =
-    trace_from-more end n bench first h ∙ ap (λ (told : List TraceItem). text_of_lines n told ++ trace_from (end - (n + 1)) (n + 1) bench first) (sym (i ∙ ap (λ (state : State). lines_of bench state) c))
-
-pub end_parts : (end n : ℕ) (bench : Stimulus) (first : State) → n ≡ end → trace_from (end - n) n bench first ≡ line_of end End ++ []
-end_parts end n bench first h =
-    let e : end - n ≡ zero = omega arith in
-    rw (e, h) (sym (append-nil (line_of end End)))
-
--- the trace of a run is what is written from its first chip on
-pub trace_of-first : (bench : Stimulus) (image : List Segment) (chip : State) (end : ℕ) → end ≡ bench.end → chip ≡ first_state image bench.fill → trace_from end 0 bench chip ≡ trace_of bench image
-unfolding trace_of
-trace_of-first bench image chip end ends first = rw (ends, first) refl
+-- what a run writes is written from its first chip on
+pub report_of_first : (report : Report) (bench : Stimulus) (image : List Segment) (chip : State) (end : ℕ) → end ≡ bench.end → chip ≡ first_state image bench.fill → report_text report end bench chip ≡ report_of report bench image
+unfolding trace_of releases_of
+report_of_first Trace bench image chip end ends first = rw (ends, first) refl
+report_of_first Releases bench image chip end ends first = rw (ends, first) refl

@@ -7,8 +7,12 @@ use Rattle.stimulus.specs.Stimulus.{Stimulus, bench_of_file}
 use Rattle.bench_io.specs.Shelves.{Files}
 use Rattle.capsule.specs.declared.statuses.Status.{Status}
 use Rattle.capsule.specs.declared.statuses.Status.TheVariants.{Usage, Absent, TooLong, Image, Bench}
-use Rattle.capsule.specs.Trace.{plain_bench, trace_of}
-use Rattle.capsule.specs.Words.{Request, NoCommand, RunImage}
+use Rattle.capsule.specs.declared.runs.Report.{Report}
+use Rattle.capsule.specs.declared.runs.Report.TheVariants.{Trace, Releases}
+use Rattle.chip_core.specs.State.{State}
+use Rattle.capsule.specs.Releases.{releases_of, releases_text}
+use Rattle.capsule.specs.Trace.{plain_bench, run_text, trace_of}
+use Rattle.capsule.specs.Words.{Request, NoCommand, RunImage, ReleaseImage}
 
 -- A request as a value: the files that it reads, one after the other, and what their bytes lead to.
 pub data Plan : Type 0 where
@@ -44,18 +48,33 @@ abbrev pub bench_of_run : Option (List ℕ) → (Stimulus → Plan) → Plan
 bench_of_run None next = next plain_bench
 bench_of_run (Some name) next = bench_in_file name next
 
--- the trace of an image
-abbrev pub run_of : List Segment → Option (List ℕ) → Plan
-run_of image bench = bench_of_run bench (λ stimulus. Write (trace_of stimulus image))
+-- what a run of so many ticks from a first chip on writes
+abbrev pub report_text : Report → ℕ → Stimulus → State → List ℕ
+report_text Trace = run_text
+report_text Releases = releases_text
+
+-- what a run writes, by its bench and its image
+abbrev pub report_of : Report → Stimulus → List Segment → List ℕ
+report_of Trace = trace_of
+report_of Releases = releases_of
+
+-- a text of an image's run
+abbrev pub run_of : (Stimulus → List Segment → List ℕ) → List Segment → Option (List ℕ) → Plan
+run_of text image bench = bench_of_run bench (λ stimulus. Write (text stimulus image))
 
 -- what the bytes of an image lead to in a run
-abbrev pub image_judged : List ℕ → Option (List ℕ) → Plan
-image_judged bytes bench = with_image (image_of bytes) (λ image. run_of image bench)
+abbrev pub image_judged : (Stimulus → List Segment → List ℕ) → List ℕ → Option (List ℕ) → Plan
+image_judged text bytes bench = with_image (image_of bytes) (λ image. run_of text image bench)
+
+-- a text of the run of the image in a file
+abbrev pub run_of_file : (Stimulus → List Segment → List ℕ) → List ℕ → Option (List ℕ) → Plan
+run_of_file text image bench = Read image image_limit (λ bytes. image_judged text bytes bench)
 
 -- The image first, and then the bench. Later requests add their cases here.
 abbrev pub plan_of : Request → Plan
 plan_of NoCommand = Refuse Usage
-plan_of (RunImage image bench) = Read image image_limit (λ bytes. image_judged bytes bench)
+plan_of (RunImage image bench) = run_of_file trace_of image bench
+plan_of (ReleaseImage image bench) = run_of_file releases_of image (Some bench)
 
 -- what comes of a file that is there or not
 abbrev pub of_file : Option (List ℕ) → ℕ → (List ℕ → Result (List ℕ) Status) → Result (List ℕ) Status

@@ -3,7 +3,7 @@ ghost use Rattle.bench_io.specs.WholeFiles.{shelf_view};
 ghost use Rattle.capsule.specs.Call.{IsCall, sink_view};
 ghost use Rattle.capsule.specs.Words.{NoCommand, request_of, request_of_command};
 
-use crate::runs::run;
+use crate::runs::{release, run};
 use crate::statuses::Status;
 use bench_io::{Shelf, Sink};
 use std::alloc::Global;
@@ -13,6 +13,8 @@ use std::alloc::Global;
 enum Command<'a> {
     /// `run IMAGE`, or `run IMAGE BENCH`.
     Run(&'a str, Option<&'a str>),
+    /// `release IMAGE BENCH`.
+    Release(&'a str, &'a str),
 }
 
 /// Reads the words.
@@ -30,6 +32,8 @@ fn read_command(words: &[String]) -> Option<Command<'_>>
         [command, image, bench] => {
             if command.as_str() == "run" {
                 Some(Command::Run(image.as_str(), Some(bench.as_str())))
+            } else if command.as_str() == "release" {
+                Some(Command::Release(image.as_str(), bench.as_str()))
             } else {
                 None
             }
@@ -59,6 +63,7 @@ pub fn capsule<S: Shelf, K: Sink>(
 {
     match read_command(words) {
         Some(Command::Run(image, bench)) => run(alloc, image, bench, shelf, out),
+        Some(Command::Release(image, bench)) => release(alloc, image, bench, shelf, out),
         None => Status::Usage,
     }
 }

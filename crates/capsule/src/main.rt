@@ -1,4 +1,4 @@
-//! The program: reads an image, runs it on the chip and prints its trace.
+//! The program: reads an image, runs it on the chip and prints its trace or its release list.
 #![tactic(auto)]
 
 use bench_io::{FileShelf, StdSink};
@@ -8,6 +8,7 @@ use std::process::ExitCode;
 use std::{env, io};
 
 mod commands;
+mod releases;
 mod runs;
 mod statuses;
 #[cfg(test)]
@@ -16,7 +17,7 @@ mod trace;
 mod whole_files;
 
 pub use commands::capsule;
-pub use runs::run;
+pub use runs::{release, run};
 pub use statuses::Status;
 
 /// The words after the program's name.

@@ -10,7 +10,7 @@ use stimulus::Bench;
 use trace_print::{TraceItem, trace_line};
 
 /// Writes one line.
-fn put_line<K: Sink>(tick: u32, item: &TraceItem, out: &mut K) -> Result<(), PutFailed>
+pub fn put_line<K: Sink>(tick: u32, item: &TraceItem, out: &mut K) -> Result<(), PutFailed>
     requires { IsPrintable item.now }
     ensures whole { OnOk result
         (K.written out.new ≡ appended (K.written out.old) (line_of tick item.now)) }

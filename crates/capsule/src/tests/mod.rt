@@ -10,5 +10,6 @@ mod interrupts;
 mod programs;
 mod protection;
 mod refusals;
+mod releases;
 mod resets;
 mod timers;

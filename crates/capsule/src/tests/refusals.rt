@@ -17,6 +17,8 @@ fn refuses_by_cause(rt: HostRuntime) -> Result<(), Fail> {
     usage(&["run", "image", "bench", "bench"]).gives(&rt, Status::Usage, "")?;
     usage(&["RUN", "image"]).gives(&rt, Status::Usage, "")?;
     usage(&["", "image"]).gives(&rt, Status::Usage, "")?;
+    usage(&["release", "image"]).gives(&rt, Status::Usage, "")?;
+    usage(&["release", "image", "bench", "bench"]).gives(&rt, Status::Usage, "")?;
     Case {
         words: &["run", "none"],
         ..run_of(file)
