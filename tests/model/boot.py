@@ -169,6 +169,15 @@ class Boot:
         self.statistics[f"boot: {what}"] += 1
 
 
+def borders_of_image(store: bytearray) -> Borders:
+    """What the first boot of an image ends with, where nothing cuts it."""
+    writes = Writes(Counter())
+    boot = Boot(Memory(store, 0), HiddenWords(writes), writes, Counter())
+    while boot.place is not Place.DONE:
+        boot.step()
+    return boot.end()
+
+
 STEPS = {
     Place.START: Boot.look_at_mark,
     Place.SIGNATURE: Boot.look_at_signature,

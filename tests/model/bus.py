@@ -5,6 +5,7 @@ Two sizes of data: "b" is a byte and "w" a word.
 
 from collections.abc import Callable
 from enum import Enum
+from typing import NamedTuple
 
 from encapsulation import Encapsulation
 from memory import (
@@ -29,6 +30,15 @@ class Agent(Enum):
 JUDGED_BY_SEGMENTS = (Agent.PROCESSOR, Agent.DMA)
 
 
+class Access(NamedTuple):
+    """One that was made, refused or not. Bit 0 of the address is clear where a word was asked."""
+
+    right: Right
+    at: int
+    size: str
+    value: int = 0  # that was written
+
+
 class Bus:
     def __init__(
         self, memory: Memory, units, request: Callable[[Cause], None],
@@ -41,7 +51,8 @@ class Bus:
         self.writes = writes
         self.agent = Agent.PROCESSOR
         self.instruction: int | None = None  # where that of the processor begins
-        self.accesses_to_fram = 0  # of this step
+        self.accesses: list[Access] = []  # of this step, as are the next
+        self.accesses_to_fram = 0
         self.unit_of_address = {}
         for unit in units:
             for address in unit.addresses:
@@ -50,12 +61,14 @@ class Bus:
     def begin_step(self, agent: Agent, instruction: int | None = None) -> None:
         self.agent = agent
         self.instruction = instruction
+        self.accesses = []
         self.accesses_to_fram = 0
 
     def fetch(self, instruction_address: int, at: int) -> int:
         at &= ADDRESS_MASK & ~1
         is_first_word = at == instruction_address
         if is_first_word and region_of(at) is Region.PERIPHERALS:
+            self.accesses.append(Access(Right.FETCH, at, "w"))
             self.request(Cause.PERIPHERAL_FETCH)
             return VACANT_WORD
         return self.read(at, "w", Right.FETCH)
@@ -64,6 +77,7 @@ class Bus:
         at &= ADDRESS_MASK
         if size == "w":
             at &= ~1
+        self.accesses.append(Access(right, at, size))
         if region_of(at) is Region.PERIPHERALS:
             return self.read_register(at, size)
         if self.is_refused(at, right):
@@ -76,6 +90,8 @@ class Bus:
             at &= ~1
         if self.writes.next_is_absent(self.agent.value):
             return
+        whole = value & (WORD if size == "w" else LOW_HALF)
+        self.accesses.append(Access(Right.WRITE, at, size, whole))
         if region_of(at) is Region.PERIPHERALS:
             self.write_register(at, size, value)
         elif self.is_refused(at, Right.WRITE):

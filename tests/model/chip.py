@@ -1,11 +1,14 @@
 """The chip and its tick: power, stimulus, timers, bus owner, reset, cut (MACHINE.md, A tick)."""
 
 from collections import Counter
+from dataclasses import dataclass
 
 import interrupts
+import items
+import seals
 import trace
 from bench import Event, PinLevel
-from boot import Boot, HiddenWords, Place
+from boot import Boot, HiddenWords, Place, borders_of_image
 from bus import Agent, Bus
 from clocks import edges_of
 from debug import Command, DebugPort
@@ -14,12 +17,14 @@ from encapsulation import Encapsulation
 from execute import Done, step
 from fram import Fram
 from interrupts import CPUOFF_BIT, PC, SR
+from items import Item
 from latch import Latch
 from memory import Memory
 from ports import Ports
 from power import Power, Writes
 from protection import Protection
 from registers import Registers
+from requests import Requests
 from system import CAUSES_OF_BOR, Cause, System
 from timers import three_timers
 from watchdog import Watchdog
@@ -28,13 +33,24 @@ RESET_VECTOR = 0xFFFE
 NO_VECTOR = 0xFFFF
 
 
+@dataclass(frozen=True)
+class PrivateStep:
+    """An instruction or an entry that was made from within the seal."""
+
+    status: int  # SR before it
+    vector: int | None = None  # of an entry
+
+
 class Chip:
     def __init__(self, store: bytearray, fill: int, statistics: Counter):
         self.statistics = statistics
         self.number = 0
         self.powered = False
         self.lines: list[str] = []
-        self.requests: set[Cause] = set()
+        self.items: list[Item] = []
+        self.is_private_turn = False  # by the phase when the owner of the bus acts
+        self.private_step: PrivateStep | None = None
+        self.requests = Requests()
         self.registers = Registers()
         self.busy = 0
         self.dead = False
@@ -50,6 +66,8 @@ class Chip:
         self.fram = Fram(self.requests.add)
         latch = Latch(self.requests.add, Cause.PROTECTION_PASSWORD)
         self.encapsulation = Encapsulation(latch)
+        self.encapsulation.install(borders_of_image(store))  # its seal is kept from now on
+        self.encapsulation.reset(Cause.POWER_ON)
         self.protection = Protection(self.requests.add, latch, self.encapsulation, statistics)
         units = (self.system, self.ports, self.watchdog, *self.timers, self.dma, self.fram,
                  self.protection, self.encapsulation)
@@ -68,8 +86,9 @@ class Chip:
         self.levels = self.ports.levels()
 
     def tick(self, events: list[Event], power: Power) -> list[str]:
-        """One tick, and its lines."""
+        """One tick, and its lines. Its items are in `items` then."""
         self.lines = []
+        self.items = []
         self.writes.begin_tick(power.whole_writes)
         if power.is_on:
             self.tick_with_power(events)
@@ -86,12 +105,16 @@ class Chip:
         lines_of_events = len(self.lines)
         self.take_edges()
         self.owner_acts()
+        flags = self.protection.noted_flags()
         self.protection.end_step()
+        if self.private_step is not None:
+            self.list_step(self.private_step, flags)
         if self.writes.end_in_a_cut():
             del self.lines[lines_of_events:]  # what the owner did has no lines in such a tick
             self.lose_power()
         else:
             self.take_reset()
+            self.list_exit()
 
     # Power
 
@@ -145,6 +168,8 @@ class Chip:
     # The bus owner
 
     def owner_acts(self) -> None:
+        self.is_private_turn = self.is_private()
+        self.private_step = None
         if not self.is_booted():
             self.boot_acts()
         elif self.dma.acts(self.bus):
@@ -160,12 +185,23 @@ class Chip:
             return
         if self.boot.erases_first_word():
             self.lines.append(trace.erase(self.number))
+        place = self.boot.place
         self.boot.step()
+        if place is Place.WORD:
+            words = self.boot.words
+            self.items.append(items.Struct(len(words) - 1, words[-1]))
 
     def end_boot(self) -> None:
+        kept = self.encapsulation.kept
         self.encapsulation.install(self.boot.end())
         self.lines.append(trace.boot(self.number, self.encapsulation))
         self.load_reset_vector()
+        self.list_opened(kept - self.encapsulation.kept)
+
+    def list_opened(self, opened: seals.Seal) -> None:
+        for interval in seals.intervals(opened):
+            content = bytes(self.memory.store[interval.start:interval.stop])
+            self.items.append(items.Opened(interval.start, content))
 
     def load_reset_vector(self) -> None:
         vector = self.memory.read_word(RESET_VECTOR)
@@ -216,6 +252,7 @@ class Chip:
         if line is self.nmi:
             self.tell_nmi(status)
         self.bus.begin_step(Agent.ENTRY)
+        self.note_step(vector=line.vector)
         self.busy = interrupts.enter(line, self.registers, self.bus) - 1
         self.busy += self.waits_of_step()
 
@@ -235,6 +272,7 @@ class Chip:
 
     def execute(self) -> None:
         self.bus.begin_step(Agent.PROCESSOR, instruction=self.registers.get(PC))
+        self.note_step()
         outcome = step(self.registers, self.bus)
         self.statistics[f"form {outcome.form}"] += 1
         if isinstance(outcome, Done):
@@ -242,6 +280,36 @@ class Chip:
             self.busy += self.waits_of_step()
         else:
             self.requests.add(Cause.RESERVED_WORD)
+
+    # Items
+
+    def note_step(self, vector: int | None = None) -> None:
+        if self.is_private_turn:
+            self.private_step = PrivateStep(self.registers.get(SR), vector)
+            self.requests.begin_step()
+
+    def list_step(self, step: PrivateStep, flags: int) -> None:
+        """Behind a private step, and before the reset that it may have asked for."""
+        is_cut = self.writes.end_in_a_cut()
+        if step.vector is not None and not is_cut:
+            self.items.append(items.Entry(step.vector))
+        self.items += [
+            items.item_of_access(access) for access in self.bus.accesses
+            if not self.encapsulation.seals(access.at)
+        ]
+        if is_cut:
+            return
+        if flags:
+            self.items.append(items.Flags(flags))
+        if self.requests.of_step:
+            self.items.append(items.Reset(min(self.requests.of_step)))
+        power = self.registers.get(SR) & items.POWER_BITS
+        if power != step.status & items.POWER_BITS:
+            self.items.append(items.Power(power))
+
+    def list_exit(self) -> None:
+        if self.is_private_turn and not self.is_private():
+            self.items.append(items.Exit(self.busy, tuple(self.registers.values)))
 
     # Resets
 

@@ -6,29 +6,36 @@ from dataclasses import dataclass
 from pathlib import Path
 
 from cases import Case, random_case
-from run import Answer, run
+from run import Answer, Answers, answers
 
+RUN, RELEASE = "run", "release"
 SECONDS_OF_A_RUN = 120
+SHARE_OF_RELEASES = 3  # one case in so many is asked for its releases, and all with a seal
 
 
 @dataclass(frozen=True)
 class Tried:
-    """What came of one case."""
+    """What came of one case. A word is that of the program: `run` or `release`."""
 
     index: int
     kind: str
     statistics: Counter
-    differs: bool
+    word_that_differs: str | None
 
 
-def answer_of_model(case: Case, statistics: Counter | None = None) -> Answer:
+def answers_of_model(case: Case, statistics: Counter | None = None) -> Answers:
     if statistics is None:
         statistics = Counter()
-    return run(case.image_file(), case.bench_file(), statistics)
+    return answers(case.image_file(), case.bench_file(), statistics)
+
+
+def answer_of_model(word: str, case: Case) -> Answer:
+    ours = answers_of_model(case)
+    return ours.release if word == RELEASE else ours.run
 
 
 def write_files(case: Case, folder: Path, name: str) -> list[Path]:
-    """The files that `run` is called with: an image, and a bench where there is one."""
+    """The files that the program is called with: an image, and a bench where there is one."""
     image = folder / f"{name}.elf"
     image.write_bytes(case.image_file())
     bench_file = case.bench_file()
@@ -39,11 +46,11 @@ def write_files(case: Case, folder: Path, name: str) -> list[Path]:
     return [image, bench]
 
 
-def answer_of_program(program: Path, case: Case, folder: Path) -> Answer:
+def answer_of_program(program: Path, word: str, case: Case, folder: Path) -> Answer:
     files = write_files(case, folder, "case")
     try:
         finished = subprocess.run(
-            [program, "run", *files], capture_output=True, timeout=SECONDS_OF_A_RUN, check=False
+            [program, word, *files], capture_output=True, timeout=SECONDS_OF_A_RUN, check=False
         )
     except subprocess.TimeoutExpired:
         return Answer("", f"no answer within {SECONDS_OF_A_RUN} seconds\n", -1)
@@ -52,13 +59,24 @@ def answer_of_program(program: Path, case: Case, folder: Path) -> Answer:
     return Answer(output, error, finished.returncode)
 
 
-def try_case(program: Path, seed: int, index: int, folder: Path) -> Tried:
+def try_case(
+    program: Path, seed: int, index: int, with_releases: bool, folder: Path
+) -> Tried:
     case = random_case(seed, index)
     statistics = Counter()
-    expected = answer_of_model(case, statistics)
-    statistics[f"exit {expected.status}"] += 1
-    differs = answer_of_program(program, case, folder) != expected
-    return Tried(index, case.kind, statistics, differs)
+    ours = answers_of_model(case, statistics)
+    statistics[f"exit {ours.run.status}"] += 1
+    expected = {RUN: ours.run}
+    asks = ours.has_seal or index % SHARE_OF_RELEASES == 0
+    if with_releases and asks and case.bench_file() is not None:
+        expected[RELEASE] = ours.release
+        statistics["releases"] += 1
+    different = None
+    for word, answer in expected.items():
+        if answer_of_program(program, word, case, folder) != answer:
+            different = word
+            break
+    return Tried(index, case.kind, statistics, different)
 
 
 def first_difference(ours: Answer, theirs: Answer) -> str:

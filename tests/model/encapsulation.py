@@ -9,6 +9,7 @@ from latch import Latch
 from memory import Region, region_of
 from registers_of_units import merged
 from right import Right
+from seals import NO_SEAL, Seal, seal_between
 from system import CAUSES_OF_BOR, Cause
 
 MPUIPC0 = 0x05AA
@@ -39,6 +40,7 @@ class Encapsulation:
 
     def __init__(self, latch: Latch):
         self.latch = latch
+        self.kept = NO_SEAL  # stands until a boot ends or LOCK is set, without power too
         self.reset(Cause.POWER_ON)
 
     def reset(self, cause: Cause) -> None:
@@ -54,11 +56,14 @@ class Encapsulation:
         if self.latch.is_open and not self.locked():
             word = merged(self.registers[address], value, mask)
             self.registers[address] = word & KEPT_BITS[address]
+            if self.locked() and self.enabled():
+                self.kept = self.seal()
 
     def install(self, borders: Borders) -> None:
         """What the end of a boot does. No latch or lock is asked."""
         self.registers = {MPUIPC0: borders.control, MPUIPSEGB2: borders.second,
                           MPUIPSEGB1: borders.first}
+        self.kept = self.seal()
 
     def control(self) -> int:
         return self.registers[MPUIPC0]
@@ -92,6 +97,10 @@ class Encapsulation:
     def seals(self, address: int) -> bool:
         """Whether an address lies in the seal, which is the area where LOCK is set."""
         return self.locked() and self.holds(address)
+
+    def seal(self) -> Seal:
+        """All that is sealed."""
+        return seal_between(self.first_border(), self.second_border(), self.seals)
 
     # Rights
 

@@ -10,16 +10,19 @@ import sys
 from collections import Counter
 from pathlib import Path
 
-from run import Answer, run
+from run import Answer, answers
 
 
 def difference(image: bytes, bench: bytes | None, known: tuple) -> str:
     """How the answer differs, as a word, or nothing."""
     try:
-        answer = run(image, bench, Counter())
+        found = answers(image, bench, Counter())
     except Exception as error:  # a model with a mistake may do anything
         return type(error).__name__
-    return "" if answer == Answer(*known) else "differs"
+    run, release = (Answer(**answer) for answer in known)
+    if found.run != run:
+        return "differs"
+    return "" if found.release == release else "differs in its releases"
 
 
 def main() -> None:

@@ -11,7 +11,7 @@ import subprocess
 import sys
 import tempfile
 from concurrent.futures import ThreadPoolExecutor
-from dataclasses import dataclass
+from dataclasses import asdict, dataclass
 from functools import partial
 from pathlib import Path
 
@@ -21,10 +21,11 @@ import mistakes_of_encapsulation
 import mistakes_of_instructions
 import mistakes_of_power
 import mistakes_of_protection
+import mistakes_of_releases
 import mistakes_of_timers
 import mistakes_of_units
 from cases import random_case
-from comparison import answer_of_model
+from comparison import answers_of_model
 from mistake import Mistake
 
 HERE = Path(__file__).resolve().parent
@@ -41,16 +42,15 @@ ALL_MISTAKES = (
     *mistakes_of_instructions.MISTAKES, *mistakes_of_units.MISTAKES,
     *mistakes_of_timers.MISTAKES, *mistakes_of_dma.MISTAKES, *mistakes_of_protection.MISTAKES,
     *mistakes_of_encapsulation.MISTAKES, *mistakes_of_debug.MISTAKES,
-    *mistakes_of_power.MISTAKES,
+    *mistakes_of_power.MISTAKES, *mistakes_of_releases.MISTAKES,
 )
 
 
 def known_case(seed: int, index: int) -> tuple:
-    """The files of a case, and the answer of the model without a mistake."""
+    """The files of a case, and the answers of the model without a mistake."""
     case = random_case(seed, index)
-    answer = answer_of_model(case)
-    known = (answer.output, answer.error, answer.status)
-    return case.image_file(), case.bench_file(), known
+    known = answers_of_model(case)
+    return case.image_file(), case.bench_file(), (asdict(known.run), asdict(known.release))
 
 
 def write_cases(path: Path, count: int, seed: int, jobs: int) -> None:

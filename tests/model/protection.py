@@ -147,6 +147,10 @@ class Protection:
 
     # Violations
 
+    def noted_flags(self) -> int:
+        """The places that this step has noted, as bits of MPUCTL1."""
+        return sum(1 << place for place in self.noted)
+
     def note(self, place: Place) -> None:
         self.noted.add(place)
 

@@ -22,6 +22,7 @@ def report(kinds: Counter, statistics: Counter) -> str:
     lines += protection_lines(statistics)
     lines += debug_lines(statistics)
     lines += power_lines(statistics)
+    lines += release_lines(statistics)
     return "\n".join(wrapped(line) for line in lines) + "\n"
 
 
@@ -88,6 +89,14 @@ def power_lines(statistics: Counter) -> list[str]:
         f"cuts: {cuts.total()}, by where they came: {listed(cuts)}",
         f"writes in the tick of a cut, whole: {listed(starting(statistics, 'whole in a cut: '))}",
         f"and absent: {listed(starting(statistics, 'absent in a cut: '))}",
+    ]
+
+
+def release_lines(statistics: Counter) -> list[str]:
+    items = starting(statistics, "item ")
+    return [
+        f"release lists that were asked for: {statistics['releases']}",
+        f"items: {items.total()}, by kind: {listed(items)}",
     ]
 
 

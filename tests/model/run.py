@@ -1,10 +1,14 @@
-"""What `capsule run IMAGE BENCH` writes, and the number it ends with (README.md, TRACE.md)."""
+"""What `capsule run` and `capsule release` write, and the numbers they end with.
+
+README.md and TRACE.md tell of the first. The second writes the lines of all items, and END.
+"""
 
 from collections import Counter
 from dataclasses import dataclass
 
 import bench as benches
 import image as images
+import items
 import trace
 from bench import Bench
 from chip import Chip
@@ -21,6 +25,15 @@ class Answer:
     status: int
 
 
+@dataclass(frozen=True)
+class Answers:
+    """Of both words, for the same files."""
+
+    run: Answer
+    release: Answer
+    has_seal: bool  # at some tick something was kept
+
+
 TOO_LONG = Answer("", "capsule: too long\n", 5)
 BAD_IMAGE = Answer("", "capsule: bad image\n", 6)
 BAD_BENCH = Answer("", "capsule: bad bench\n", 7)
@@ -28,29 +41,51 @@ BAD_BENCH = Answer("", "capsule: bad bench\n", 7)
 
 def run(image: bytes, bench: bytes | None, statistics: Counter) -> Answer:
     """The answer for the files of an image and of a bench, or of no bench."""
+    return answers(image, bench, statistics).run
+
+
+def release(image: bytes, bench: bytes, statistics: Counter) -> Answer:
+    return answers(image, bench, statistics).release
+
+
+def answers(image: bytes, bench: bytes | None, statistics: Counter) -> Answers:
+    """Without a bench, which `release` needs, it is answered as `run` is."""
     if len(image) > LONGEST_IMAGE:
-        return TOO_LONG
+        return refused(TOO_LONG)
     try:
         store = images.store_of_image(image)
     except images.Refused:
-        return BAD_IMAGE
+        return refused(BAD_IMAGE)
     if bench is None:
-        return Answer(whole_trace(store, Bench(), statistics), "", 0)
+        return whole_run(store, Bench(), statistics)
     if len(bench) > LONGEST_BENCH:
-        return TOO_LONG
+        return refused(TOO_LONG)
     try:
         right_bench = benches.bench_of_text(bench)
     except benches.Refused:
-        return BAD_BENCH
-    return Answer(whole_trace(store, right_bench, statistics), "", 0)
+        return refused(BAD_BENCH)
+    return whole_run(store, right_bench, statistics)
 
 
-def whole_trace(store: bytearray, bench: Bench, statistics: Counter) -> str:
+def refused(answer: Answer) -> Answers:
+    return Answers(answer, answer, has_seal=False)
+
+
+def whole_run(store: bytearray, bench: Bench, statistics: Counter) -> Answers:
     chip = Chip(store, bench.fill, statistics)
     events = bench.events_of_ticks()
     schedule = Schedule(bench.cuts)
-    lines: list[str] = []
+    has_seal = bool(chip.encapsulation.kept)
+    traced: list[str] = []
+    released: list[str] = []
     for tick in range(bench.end):
-        lines += chip.tick(events.get(tick, []), schedule.at(tick))
+        traced += chip.tick(events.get(tick, []), schedule.at(tick))
+        released += items.lines(tick, chip.items)
+        for item in chip.items:
+            statistics[f"item {type(item).__name__}"] += 1
         statistics["ticks"] += 1
-    return "".join(lines) + trace.end(bench.end)
+        has_seal |= bool(chip.encapsulation.kept)
+    end = trace.end(bench.end)
+    return Answers(
+        Answer("".join(traced) + end, "", 0), Answer("".join(released) + end, "", 0), has_seal
+    )
