@@ -37,7 +37,7 @@ hidden_byte true x y same = refl
 hidden_byte false x y same = same refl
 
 -- two memories with the same bytes where a seal holds none
-hidden_from-same :
+pub hidden_from-same :
     (seal : Seal) (at : ℕ) (one other : List ℕ) → length one ≡ length other →
     ((k : ℕ) → k < length one → is_in seal (at + k) ≡ false → slice_index one k ≡ slice_index other k) →
     hidden_from seal at one ≡ hidden_from seal at other

@@ -19,3 +19,4 @@ pub mod Transfers
 pub mod BootSteps
 pub mod Openings
 pub mod Ticking
+pub mod Runs

@@ -11,3 +11,4 @@ pub mod Transfers
 pub mod BootSteps
 pub mod Openings
 pub mod OneTick
+pub mod TwoRuns

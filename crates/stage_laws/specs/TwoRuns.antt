@@ -1,0 +1,42 @@
+-- The law of two runs: two images that agree, under one bench, look the same up to a tick before which all items agree.
+use Rattle.std.specs.Prelude.{◌≡◌, ◌<◌, ℕ, true, false, List}
+use Rattle.chip_words.specs.Map.{is_fram}
+use Rattle.chip_words.specs.Seals.{is_in}
+use Rattle.boot_code.specs.ImageSeal.{image_seal}
+use Rattle.elf_image.specs.Image.{Segment, byte_of}
+use Rattle.stimulus.specs.Stimulus.{Stimulus}
+use Rattle.chip_core.specs.FirstState.{first_state}
+use Rattle.chip_core.specs.Lines.{lines_of}
+use Rattle.chip_core.specs.Run.{chip_after}
+use Rattle.chip_core.specs.State.{State}
+use Rattle.stage_laws.specs.OneTick.{ItemsAgree}
+use Rattle.stage_laws.specs.Seen.{seen}
+
+-- two images agree: their first boots seal the same addresses, and FRAM is equal at all others
+pub record ImagesAgree (one other : List Segment) : Type 0 where
+  pub seal : image_seal one ≡ image_seal other
+  pub bytes :
+      (at : ℕ) → is_fram at ≡ true → is_in (image_seal one) at ≡ false →
+      byte_of one at ≡ byte_of other at
+
+-- the chip of a run before the tick of this number
+abbrev pub chip_before : Stimulus → List Segment → ℕ → State
+chip_before bench image n = chip_after n bench (first_state image bench.fill)
+
+-- the items of two runs agree in each tick before one
+abbrev pub AgreeUntil : Stimulus → List Segment → List Segment → ℕ → Type 0
+AgreeUntil bench one other n =
+    (k : ℕ) → k < n → ItemsAgree bench (chip_before bench one k) (chip_before bench other k)
+
+-- before a tick the same is public in two runs, and all lines of the ticks before it are equal
+pub record RunsAlike (bench : Stimulus) (one other : List Segment) (n : ℕ) : Type 0 where
+  pub public : seen (chip_before bench one n) ≡ seen (chip_before bench other n)
+  pub lines :
+      (k : ℕ) → k < n →
+      lines_of bench (chip_before bench one k) ≡ lines_of bench (chip_before bench other k)
+
+-- whatever a bench brings, and whenever its cuts take power away
+abbrev pub RunsAgree : Type 0
+RunsAgree =
+    (one other : List Segment) (bench : Stimulus) (n : ℕ) →
+    ImagesAgree one other → AgreeUntil bench one other n → RunsAlike bench one other n
