@@ -3,3 +3,4 @@ pub mod Digits
 pub mod DebugLines
 pub mod Lines
 pub mod Releases
+pub mod Verdicts

@@ -1,6 +1,6 @@
 ghost use Rattle.trace_print.specs.Releases.{IsReleasable};
 
-use crate::{Item, open_line, release_line};
+use crate::{Item, Verdict, open_line, release_line, verdict_line};
 use arrayvec::ArrayVec;
 use chip_words::Size;
 use std::process::Abort;
@@ -124,5 +124,23 @@ fn items_go_through_a_list(rt: HostRuntime) {
     );
     for item in items.as_slice() {
         assert_ne!(rt; *item, Item::default(), "it tells something");
+    }
+}
+
+#[test]
+fn verdicts_have_their_texts(rt: HostRuntime) {
+    for (verdict, text) in [
+        (Verdict::Seal, "differ seal\n"),
+        (Verdict::Outside(0x4408), "differ outside 04408\n"),
+        (Verdict::Outside(0xFFFFF), "differ outside FFFFF\n"),
+        (Verdict::Release(0), "differ release 0\n"),
+        (
+            Verdict::Release(4_294_967_295),
+            "differ release 4294967295\n",
+        ),
+        (Verdict::Same, "same\n"),
+    ] {
+        let line = verdict_line(verdict);
+        assert_eq!(rt; line.as_slice(), text.as_bytes(), "not {text}");
     }
 }
