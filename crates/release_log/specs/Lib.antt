@@ -8,3 +8,4 @@ pub mod Boots
 pub mod Puts
 pub mod Erasing
 pub mod Lasting
+pub mod SameItems

@@ -42,7 +42,8 @@ use Rattle.stage_laws.specs.Alike.{LookAlike}
 use Rattle.stage_laws.specs.Beginnings.{BeginAlike}
 use Rattle.stage_laws.specs.BootSteps.{TellAlike, booted, items_of_step}
 use Rattle.stage_laws.specs.Cuts.{CutAlike, lasting}
-use Rattle.stage_laws.specs.OneTick.{AgreeBehind, ItemsAgree, OneTickAgrees, OpensAlike}
+use Rattle.release_log.specs.SameItems.{OpensAlike}
+use Rattle.stage_laws.specs.OneTick.{AgreeBehind, ItemsAgree, OneTickAgrees}
 use Rattle.stage_laws.specs.PublicTurns.{ComputeAlike, TurnsAlike}
 use Rattle.stage_laws.specs.Ready.{ready_of}
 use Rattle.stage_laws.specs.Resets.{EndAlike}

@@ -12,3 +12,4 @@ pub mod BootSteps
 pub mod Openings
 pub mod OneTick
 pub mod TwoRuns
+pub mod Verdicts

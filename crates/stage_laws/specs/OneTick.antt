@@ -1,26 +1,18 @@
 -- The law of one tick: what is public behind it, and what it shows, go by what is public and by what its items tell.
-use Rattle.std.specs.Prelude.{◌≡◌, ℕ, List, All}
+use Rattle.std.specs.Prelude.{◌≡◌}
 use Rattle.stimulus.specs.Stimulus.{Stimulus}
-use Rattle.trace_print.specs.declared.releases.Item.{Item}
-use Rattle.trace_print.specs.declared.releases.Item.TheVariants.{Opened}
 use Rattle.chip_core.specs.Items.{items_of}
 use Rattle.chip_core.specs.Lines.{lines_of}
 use Rattle.chip_core.specs.State.{State}
 use Rattle.chip_core.specs.Tick.{power_of, ticked}
 use Rattle.release_log.specs.Facts.{IsSound, MayBeOff}
-use Rattle.stage_laws.specs.Openings.{AgreeIn}
+use Rattle.release_log.specs.SameItems.{AreSameItems}
 use Rattle.stage_laws.specs.Seen.{seen}
 
--- where an item opens addresses, two memories have equal bytes at them
-abbrev pub OpensAlike : List ℕ → List ℕ → Item → Type 0
-OpensAlike one other (Opened low high) = AgreeIn one other (record { low = low; high = high })
-OpensAlike one other item = Unit {0}
-
 -- the items of a tick agree: they are equal, and what is opened by them has equal bytes behind the tick
-pub record ItemsAgree (bench : Stimulus) (a b : State) : Type 0 where
-  pub items : items_of bench a ≡ items_of bench b
-  pub bytes :
-      All (OpensAlike (ticked bench a).bus.memory (ticked bench b).bus.memory) (items_of bench a)
+abbrev pub ItemsAgree : Stimulus → State → State → Type 0
+ItemsAgree bench a b =
+    AreSameItems (items_of bench a) (items_of bench b) (ticked bench a).bus.memory (ticked bench b).bus.memory
 
 -- behind a tick the same is public, and its lines are equal
 pub record AgreeBehind (bench : Stimulus) (a b : State) : Type 0 where

@@ -12,21 +12,31 @@ use Rattle.chip_core.specs.State.{State}
 use Rattle.stage_laws.specs.OneTick.{ItemsAgree}
 use Rattle.stage_laws.specs.Seen.{seen}
 
+-- the first boots of two images seal the same addresses
+abbrev pub SealSame : List Segment → List Segment → Type 0
+SealSame one other = (at : ℕ) → is_in (image_seal one) at ≡ is_in (image_seal other) at
+
+-- an address of FRAM that the first boot of an image doesn't seal
+pub record IsOutside (image : List Segment) (at : ℕ) : Type 0 where
+  pub fram : is_fram at ≡ true
+  pub unsealed : is_in (image_seal image) at ≡ false
+
 -- two images agree: their first boots seal the same addresses, and FRAM is equal at all others
 pub record ImagesAgree (one other : List Segment) : Type 0 where
-  pub seal : image_seal one ≡ image_seal other
-  pub bytes :
-      (at : ℕ) → is_fram at ≡ true → is_in (image_seal one) at ≡ false →
-      byte_of one at ≡ byte_of other at
+  pub seal : SealSame one other
+  pub bytes : (at : ℕ) → IsOutside one at → byte_of one at ≡ byte_of other at
 
--- the chip of a run before the tick of this number
+-- the chip of an image before the first tick of a run
+abbrev pub first_of : Stimulus → List Segment → State
+first_of bench image = first_state image bench.fill
+
+-- and before the tick of this number
 abbrev pub chip_before : Stimulus → List Segment → ℕ → State
-chip_before bench image n = chip_after n bench (first_state image bench.fill)
+chip_before bench image n = chip_after n bench (first_of bench image)
 
--- the items of two runs agree in each tick before one
-abbrev pub AgreeUntil : Stimulus → List Segment → List Segment → ℕ → Type 0
-AgreeUntil bench one other n =
-    (k : ℕ) → k < n → ItemsAgree bench (chip_before bench one k) (chip_before bench other k)
+-- the items of the runs of two chips agree in each tick before one
+abbrev pub AgreeUntil : Stimulus → State → State → ℕ → Type 0
+AgreeUntil bench a b n = (k : ℕ) → k < n → ItemsAgree bench (chip_after k bench a) (chip_after k bench b)
 
 -- before a tick the same is public in two runs, and all lines of the ticks before it are equal
 pub record RunsAlike (bench : Stimulus) (one other : List Segment) (n : ℕ) : Type 0 where
@@ -39,4 +49,5 @@ pub record RunsAlike (bench : Stimulus) (one other : List Segment) (n : ℕ) : T
 abbrev pub RunsAgree : Type 0
 RunsAgree =
     (one other : List Segment) (bench : Stimulus) (n : ℕ) →
-    ImagesAgree one other → AgreeUntil bench one other n → RunsAlike bench one other n
+    ImagesAgree one other → AgreeUntil bench (first_of bench one) (first_of bench other) n →
+    RunsAlike bench one other n
