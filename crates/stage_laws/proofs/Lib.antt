@@ -19,4 +19,5 @@ pub mod Transfers
 pub mod BootSteps
 pub mod Openings
 pub mod Ticking
+pub mod Seals
 pub mod Runs

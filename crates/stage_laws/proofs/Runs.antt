@@ -1,15 +1,13 @@
 -- Two runs, by their ticks one after another.
-use Rattle.std.proofs.Common.{◌≡◌, ◌<◌, ◌+◌, ℕ, zero, suc, List, Bool, true, false, length, slice_index, inl, inr, arith, refl, ap, sym, ◌∙◌, subst, if◌then◌else◌}
+use Rattle.std.proofs.Common.{◌≡◌, ◌<◌, ◌+◌, ℕ, zero, suc, List, Bool, true, false, inl, inr, arith, refl, ap, sym, ◌∙◌, subst, if◌then◌else◌}
 use Rattle.std.proofs.lemmas.Bool.{cases_lt}
 use Rattle.chip_words.specs.declared.seals.Seal.{Seal}
 use Rattle.chip_words.specs.Map.{is_fram, is_sram}
 use Rattle.chip_words.specs.Memory.{memory_size}
 use Rattle.chip_words.specs.Public.{hidden}
-use Rattle.chip_words.specs.Seals.{is_in}
 use Rattle.boot_code.specs.ImageSeal.{image_seal}
 use Rattle.bus_fabric.proofs.MemoryBy.{length-memory_by, slice_index-memory_by}
 use Rattle.elf_image.specs.Image.{Segment, byte_of}
-use Rattle.stimulus.specs.Stimulus.{Stimulus}
 use Rattle.chip_core.specs.FirstState.{first_byte, first_memory, first_state}
 use Rattle.chip_core.specs.Lines.{lines_of}
 use Rattle.chip_core.specs.Phase.{is_private}
@@ -17,8 +15,9 @@ use Rattle.chip_core.specs.State.{State}
 use Rattle.release_log.proofs.Begins.{run_keeps_facts, run_loses_power_by_cuts}
 use Rattle.stage_laws.specs.OneTick.{AgreeBehind}
 use Rattle.stage_laws.specs.Seen.{Seen, seen}
-use Rattle.stage_laws.specs.TwoRuns.{AgreeUntil, ImagesAgree, RunsAgree, RunsAlike, chip_before}
+use Rattle.stage_laws.specs.TwoRuns.{ImagesAgree, RunsAgree, RunsAlike, chip_before}
 use Rattle.stage_laws.proofs.Cutting.{hidden_from-same}
+use Rattle.stage_laws.proofs.Seals.{seals_go_by_addresses}
 use Rattle.stage_laws.proofs.Ticking.{one_tick_agrees}
 
 -- ---- the first chips
@@ -42,7 +41,7 @@ first-hidden one other fill agree =
     let here : 0 + k ≡ k = omega arith in
     slice_index-memory_by x k few
     ∙ by_fram (is_fram k) (byte_of one k) (byte_of other k) (if is_sram k then fill else 0)
-    (λ fram. agree.bytes k fram (rw (← here) outside))
+    (λ fram. agree.bytes k (record { fram = fram; unsealed = rw (← here) outside }))
     ∙ sym (slice_index-memory_by y k few))
 
 first-seen :
@@ -54,7 +53,8 @@ first-seen one other fill agree =
     let first : Seen = seen (first_state one fill) in
     record first { chip = record (first.chip) { bus = record (first.chip.bus) { kept = kept; memory = memory } } } in
     ap (seen_with (image_seal one)) (first-hidden one other fill agree)
-    ∙ ap (λ kept. seen_with kept (hidden kept (first_memory other fill))) agree.seal
+    ∙ ap (λ kept. seen_with kept (hidden kept (first_memory other fill)))
+    (seals_go_by_addresses one other agree.seal)
 
 -- ---- tick by tick
 

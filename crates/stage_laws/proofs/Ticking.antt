@@ -34,6 +34,7 @@ use Rattle.chip_core.specs.State.{State}
 use Rattle.chip_core.specs.Tick.{after_bor, after_cause, after_events, after_puc, begun_by, behind_tick, budget_of, clocked, moments, power_of, powered, powered_on, reset, stages, stages_by, stages_from, stimulated, supplied, taken_cause, ticked, timed}
 use Rattle.chip_core.specs.Turns.{boot_turn, owned, owner_by, owner_of, step_owned, with_dma}
 use Rattle.release_log.specs.Facts.{IsSound}
+use Rattle.release_log.specs.SameItems.{OpensAlike}
 use Rattle.release_log.proofs.Booting.{boot_run-KeepsFacts, boot_run-OnlyMemory}
 use Rattle.release_log.proofs.Ending.{true-false}
 use Rattle.release_log.proofs.Kept.{IsOn, Runs, Boots, events-IsBooting, powered_on-IsOn}
@@ -42,7 +43,6 @@ use Rattle.stage_laws.specs.Alike.{LookAlike}
 use Rattle.stage_laws.specs.Beginnings.{BeginAlike}
 use Rattle.stage_laws.specs.BootSteps.{TellAlike, booted, items_of_step}
 use Rattle.stage_laws.specs.Cuts.{CutAlike, lasting}
-use Rattle.release_log.specs.SameItems.{OpensAlike}
 use Rattle.stage_laws.specs.OneTick.{AgreeBehind, ItemsAgree, OneTickAgrees}
 use Rattle.stage_laws.specs.PublicTurns.{ComputeAlike, TurnsAlike}
 use Rattle.stage_laws.specs.Ready.{ready_of}

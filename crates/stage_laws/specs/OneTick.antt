@@ -12,7 +12,8 @@ use Rattle.stage_laws.specs.Seen.{seen}
 -- the items of a tick agree: they are equal, and what is opened by them has equal bytes behind the tick
 abbrev pub ItemsAgree : Stimulus → State → State → Type 0
 ItemsAgree bench a b =
-    AreSameItems (items_of bench a) (items_of bench b) (ticked bench a).bus.memory (ticked bench b).bus.memory
+    AreSameItems (items_of bench a) (items_of bench b)
+    (ticked bench a).bus.memory (ticked bench b).bus.memory
 
 -- behind a tick the same is public, and its lines are equal
 pub record AgreeBehind (bench : Stimulus) (a b : State) : Type 0 where

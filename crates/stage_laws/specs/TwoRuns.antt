@@ -36,7 +36,8 @@ chip_before bench image n = chip_after n bench (first_of bench image)
 
 -- the items of the runs of two chips agree in each tick before one
 abbrev pub AgreeUntil : Stimulus → State → State → ℕ → Type 0
-AgreeUntil bench a b n = (k : ℕ) → k < n → ItemsAgree bench (chip_after k bench a) (chip_after k bench b)
+AgreeUntil bench a b n =
+    (k : ℕ) → k < n → ItemsAgree bench (chip_after k bench a) (chip_after k bench b)
 
 -- before a tick the same is public in two runs, and all lines of the ticks before it are equal
 pub record RunsAlike (bench : Stimulus) (one other : List Segment) (n : ℕ) : Type 0 where

@@ -1,5 +1,5 @@
 -- How two images compare under one bench: which verdict is due.
-use Rattle.std.specs.Prelude.{◌≡◌, ◌≢◌, ◌⊎◌, ◌×◌, ◌<◌, ℕ, List}
+use Rattle.std.specs.Prelude.{◌≡◌, ◌≢◌, ◌⊎◌, ◌<◌, ℕ, List}
 use Rattle.elf_image.specs.Image.{Segment, byte_of}
 use Rattle.stimulus.specs.Stimulus.{Stimulus}
 use Rattle.trace_print.specs.declared.verdicts.Verdict.{Verdict}
@@ -44,13 +44,15 @@ RunsCompare bench a b verdict = ⊥
 -- Both.
 
 -- two images agree, and their runs compare so
-pub record RunsDecide (bench : Stimulus) (one other : List Segment) (verdict : Verdict) : Type 0 where
+pub record RunsDecide
+    (bench : Stimulus) (one other : List Segment) (verdict : Verdict) : Type 0 where
   pub images : ImagesAgree one other
   pub runs : RunsCompare bench (first_of bench one) (first_of bench other) verdict
 
 -- the images decide where they differ, and else their runs
 abbrev pub IsVerdict : Stimulus → List Segment → List Segment → Verdict → Type 0
-IsVerdict bench one other verdict = ImagesDiffer one other verdict ⊎ RunsDecide bench one other verdict
+IsVerdict bench one other verdict =
+    ImagesDiffer one other verdict ⊎ RunsDecide bench one other verdict
 
 -- no two verdicts are due
 abbrev pub VerdictIsOne : Type 0
