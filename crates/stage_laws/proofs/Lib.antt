@@ -21,3 +21,4 @@ pub mod Openings
 pub mod Ticking
 pub mod Seals
 pub mod Runs
+pub mod Due

@@ -11,6 +11,7 @@ mod public_laws;
 mod ready;
 mod resets;
 mod two_runs;
+mod verdicts;
 
 pub use cuts::{cut_turns_agree, cuts_end_alike, public_parts_last};
 pub use one_tick::one_tick_agrees;
@@ -22,3 +23,4 @@ pub use public_laws::{
 pub use ready::{ticks_have_budgets, ticks_make_ready};
 pub use resets::{private_ticks_end_alike, public_parts_are_left, public_ticks_end_alike};
 pub use two_runs::runs_agree;
+pub use verdicts::verdict_is_one;
