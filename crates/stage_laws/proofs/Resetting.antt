@@ -13,14 +13,13 @@ use Rattle.chip_words.specs.Causes.{is_of_bor, no_causes}
 use Rattle.chip_words.specs.Memory.{loaded}
 use Rattle.chip_words.specs.Public.{hidden, public_part}
 use Rattle.chip_words.specs.Registers.{AreRegisters, PC, SR, no_registers, with_register}
-use Rattle.chip_words.specs.Script.{Ran}
 use Rattle.chip_words.specs.Seals.{is_in}
+use Rattle.chip_words.specs.Steps.{begun}
 use Rattle.access_laws.proofs.Masks.{hidden-get}
-use Rattle.boot_code.specs.declared.boots.Act.TheVariants as act
 use Rattle.boot_code.specs.declared.boots.BootStep.{BootStep}
-use Rattle.boot_code.specs.declared.boots.BootStep.TheVariants.{Going, Done}
-use Rattle.boot_code.specs.Boot.{Stepped}
-use Rattle.boot_code.specs.Place.{Place}
+use Rattle.boot_code.specs.declared.boots.Keep.{Keep}
+use Rattle.boot_code.specs.Boot.{boot_step, run_of}
+use Rattle.boot_code.specs.Place.{DoneWith, DoneWithout, MarkEmpty, MarkErase, Place, Ptr, SaveMark, SavePtr, Sig, Start, Wipe, Word0, Word1, Word2, Word3, is_done}
 use Rattle.bus_fabric.specs.Fabric.{RESET_VECTOR, part_at_reset}
 use Rattle.dma_unit.specs.Transfers.{due}
 use Rattle.interrupt_reset.proofs.LeastCause.{least_cause-none}
@@ -32,15 +31,14 @@ use Rattle.trace_print.specs.declared.items.TraceItem.TheVariants.{Dead}
 use Rattle.chip_core.specs.declared.owners.Owner.{Owner}
 use Rattle.chip_core.specs.declared.owners.Owner.TheVariants as owner
 use Rattle.chip_core.proofs.StepEnds.{transfer_is_no_step}
-use Rattle.chip_core.specs.Boot.{after_boot_step, boot_run, ended_unless_cut, no_vector, reset_vector}
+use Rattle.chip_core.specs.Boot.{boot_run, no_vector, reset_vector}
 use Rattle.chip_core.specs.Items.{all_registers, power_bits, start_of}
 use Rattle.chip_core.specs.Lines.{is_restart, reset_lines}
 use Rattle.chip_core.specs.Phase.{is_private}
 use Rattle.chip_core.specs.Pins.{pins_of}
 use Rattle.chip_core.specs.State.{State}
 use Rattle.chip_core.specs.Tick.{after_bor, after_cause, after_puc, at_rest, reset, stages_from, taken_cause}
-use Rattle.chip_core.specs.Turns.{boot_turn, owned, owner_by, owner_of, step_owned, transfer_turn}
-use Rattle.release_log.proofs.Booting.{boot_run-KeepsFacts}
+use Rattle.chip_core.specs.Turns.{owned, owner_by, owner_of, step_owned, transfer_turn}
 use Rattle.release_log.proofs.Ending.{and-false, true-false}
 use Rattle.release_log.proofs.Running.{GoesOn, owned-GoesOn}
 use Rattle.stage_laws.specs.Resets.{EndAlike, PrivateTicksEndAlike, PublicPartsAreLeft, PublicTicksEndAlike}
@@ -427,44 +425,44 @@ public-resets x y same registers busy =
     public-causes (taken_cause x) x y same registers busy
     ∙ ap (λ (s : Seen). seen (after_cause (taken_cause s.chip) y)) same
 
--- ---- a boot ends in an uncut tick where its place is gone
+-- ---- whether the boot ends goes by its place alone
 
-step-restarts :
-    (step : BootStep) (chip : State) → is_none chip.boot ≡ false → chip.bus.budget ≡ None →
-    is_restart (Some step) None ≡ is_none (after_boot_step step chip).boot
-step-restarts (Going (act.Mark mark)) chip boots uncut = sym boots
-step-restarts (Going (act.Ptr ptr)) chip boots uncut = sym boots
-step-restarts (Going other) chip boots uncut = sym boots
-step-restarts (Done borders) chip boots uncut =
-    ap (λ budget. is_none (ended_unless_cut budget borders chip).boot) (sym uncut)
+run-restart :
+    (place : Place) (keep : Keep) (part : BusPart) →
+    is_restart (Some (run_of place keep part).value.step) None ≡ is_done place
+unfolding boot_step
+run-restart Start keep part = refl
+run-restart Sig keep part = refl
+run-restart Ptr keep part = refl
+run-restart (Word0 p) keep part = refl
+run-restart (Word1 p w0) keep part = refl
+run-restart (Word2 p w0 w1) keep part = refl
+run-restart (Word3 p w0 w1 w2) keep part = refl
+run-restart (SavePtr p words) keep part = refl
+run-restart (SaveMark p words) keep part = refl
+run-restart MarkErase keep part = refl
+run-restart (Wipe at) keep part = refl
+run-restart MarkEmpty keep part = refl
+run-restart (DoneWith p words) keep part = refl
+run-restart DoneWithout keep part = refl
 
-boot-restarts :
-    (place : Place) (chip : State) → chip.bus.budget ≡ None →
-    is_restart (step_owned (owner.Boot place) chip) None ≡ is_none (owned (owner.Boot place) chip).chip.boot
-unfolding step_owned owned boot_turn
-boot-restarts place chip uncut =
-    let now : State = rested chip in
-    let ran : Ran Stepped = boot_run place now in
-    step-restarts (ran.value).step (record now { bus = ran.part; boot = Some (ran.value).place }) refl
-    ((boot_run-KeepsFacts place now).budget ∙ uncut)
+boot-restart :
+    (place : Place) (chip : State) → is_restart (step_owned (owner.Boot place) chip) None ≡ is_done place
+unfolding step_owned boot_run
+boot-restart place chip = run-restart place chip.keep (begun (rested chip).bus)
 
 owners-restart :
-    (owner : Owner) (cause : Option ℕ) (a b : State) → a.bus.budget ≡ None → b.bus.budget ≡ None →
-    (owned owner a).chip.boot ≡ (owned owner b).chip.boot →
+    (owner : Owner) (cause : Option ℕ) (a b : State) →
     is_restart (step_owned owner a) cause ≡ is_restart (step_owned owner b) cause
 unfolding step_owned
-owners-restart owner (Some cause) a b uncut_a uncut_b boots = refl
-owners-restart (owner.Boot place) None a b uncut_a uncut_b boots =
-    boot-restarts place a uncut_a ∙ ap is_none boots ∙ sym (boot-restarts place b uncut_b)
-owners-restart owner None a b uncut_a uncut_b boots = refl
+owners-restart owner (Some cause) a b = refl
+owners-restart (owner.Boot place) None a b = boot-restart place a ∙ sym (boot-restart place b)
+owners-restart owner None a b = refl
 
 pub public_ticks_end_alike : PublicTicksEndAlike
-public_ticks_end_alike a b uncut_a uncut_b same turns =
-    let owners : owner_of b ≡ owner_of a = sym (seen-owner a b same) in
-    let boots : (turned a).boot ≡ (owned (owner_of a) b).chip.boot =
-    ap (λ (s : Seen). s.chip.boot) turns.public ∙ ap (λ owner. (owned owner b).chip.boot) owners in
+public_ticks_end_alike a b same turns =
     ends a b (public-resets (turned a) (turned b) turns.public turns.registers turns.busy)
     (public_parts_are_left (turned a) (turned b) turns.public)
     (λ cause.
-    owners-restart (owner_of a) cause a b uncut_a uncut_b boots
-    ∙ ap (λ owner. is_restart (step_owned owner b) cause) (sym owners))
+    owners-restart (owner_of a) cause a b
+    ∙ ap (λ owner. is_restart (step_owned owner b) cause) (seen-owner a b same))

@@ -300,8 +300,8 @@ uncut-end a b lines ends =
     }
 
 uncut-StagesEnd :
-    (a b : State) → AreReady a b → a.bus.budget ≡ None → StagesAgree On On a b → StagesEnd On On a b
-uncut-StagesEnd a b are uncut agree = by_turn (turning On a b are tells)
+    (a b : State) → AreReady a b → StagesAgree On On a b → StagesEnd On On a b
+uncut-StagesEnd a b are agree = by_turn (turning On a b are tells)
   where
     same : seen a ≡ seen b
     same = are.alike.public
@@ -322,7 +322,7 @@ uncut-StagesEnd a b are uncut agree = by_turn (turning On a b are tells)
         (public_parts_are_left (turned a) (turned b) turns.chips.public) agree.items
     by_phase false public turns =
         let computes : ComputeAlike (turned a) (turned b) = turns.public public in
-        public_ticks_end_alike a b uncut (sym are.alike.budget ∙ uncut) same
+        public_ticks_end_alike a b same
         (record { public = turns.chips.public; registers = computes.registers; busy = computes.busy })
 
     by_turn : Turning a b → StagesEnd On On a b
@@ -410,7 +410,7 @@ by-power :
     (power : Power) (a b : State) → IsReady a → IsReady b → HasPower power a → LookAlike a b →
     a.bus.budget ≡ budget_of power → StagesAgree power power a b → StagesEnd power power a b
 by-power On a b ready_a ready_b has alike budget agree =
-    uncut-StagesEnd a b (record { first = ready_a; second = ready_b; powered = has; alike = alike }) budget agree
+    uncut-StagesEnd a b (record { first = ready_a; second = ready_b; powered = has; alike = alike }) agree
 by-power (Cut writes) a b ready_a ready_b has alike budget agree =
     cut-StagesEnd writes a b (record { first = ready_a; second = ready_b; powered = has; alike = alike }) budget agree
 by-power Off a b ready_a ready_b has alike budget agree = off-StagesEnd a b alike.public

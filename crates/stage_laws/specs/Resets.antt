@@ -1,5 +1,5 @@
 -- The reset behind the turn of the bus owner, in a tick whose power isn't cut.
-use Rattle.std.specs.Prelude.{◌≡◌, true, None}
+use Rattle.std.specs.Prelude.{◌≡◌, true}
 use Rattle.power_schedule.specs.declared.powers.Power.TheVariants.{On}
 use Rattle.chip_core.specs.Lines.{restart_lines}
 use Rattle.chip_core.specs.Phase.{is_private}
@@ -39,5 +39,5 @@ pub record TurnedAlike (a b : State) : Type 0 where
 -- Behind such a turn no item is needed, whoever owned the bus.
 abbrev pub PublicTicksEndAlike : Type 0
 PublicTicksEndAlike =
-    (a b : State) → a.bus.budget ≡ None → b.bus.budget ≡ None → seen a ≡ seen b →
-    TurnedAlike (turned a) (turned b) → EndAlike (stages_from On a) (stages_from On b)
+    (a b : State) → seen a ≡ seen b → TurnedAlike (turned a) (turned b) →
+    EndAlike (stages_from On a) (stages_from On b)
