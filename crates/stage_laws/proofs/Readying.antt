@@ -1,5 +1,5 @@
 -- What holds of a chip when the owner of the bus acts, from what holds of it between two ticks.
-use Rattle.std.proofs.Common.{◌≡◌, ℕ, List, [], ◌∷◌, true, false, length, refl, ap, sym, ◌∙◌, subst}
+use Rattle.std.proofs.Common.{◌≡◌, ℕ, List, [], ◌∷◌, Bool, true, false, length, refl, ap, sym, ◌∙◌, subst, if◌then◌else◌}
 use Rattle.std.specs.Prelude.{Option, Some, None, IfSome}
 use Rattle.std.proofs.lemmas.List.{append-nil, length-replicate}
 use Rattle.chip_words.specs.declared.accesses.Agent.TheVariants as by
@@ -25,7 +25,7 @@ use Rattle.chip_core.specs.Debugger.{accessed, after_command, debug_of, ran, res
 use Rattle.chip_core.specs.State.{State}
 use Rattle.chip_core.specs.Tick.{after_bor, after_event, after_events, begun_by, behind_tick, budget_of, clocked, moments, power_of, powered, powered_on, stages, stimulated, timed}
 use Rattle.chip_core.specs.Turns.{owned}
-use Rattle.release_log.specs.Facts.{IsSound, MayBeOff}
+use Rattle.release_log.specs.Facts.{IsSound}
 use Rattle.release_log.proofs.Booting.{IsBooting, fits-IsPlace}
 use Rattle.release_log.proofs.Ending.{settled-HasBorders, true-false}
 use Rattle.release_log.proofs.Kept.{IsOn, Runs, Boots, began, booting-unup, by-IsSound, events-IsBooting, off_events-powered, off-unup, powered_on-IsOn, powered_on-budget}
@@ -102,6 +102,16 @@ booting-IsReady place chip is unlisted = record {
   place = subst (λ boot. IfSome boot IsPlace) (sym is.boot) (fits-IsPlace place chip.keep chip.bus.memory is.fit);
 }
 
+-- behind the stimulus, and behind the timers
+events-IsReady :
+    (events : List Event) (chip : State) → IsOn chip → chip.bus.accesses ≡ [] → IsReady (after_events events chip)
+events-IsReady events chip (Runs is) unlisted =
+    running-IsReady (after_events events chip) (events-IsRunning events chip is)
+    (events-unlisted events chip ∙ unlisted)
+events-IsReady events chip (Boots place is) unlisted =
+    booting-IsReady place (after_events events chip) (events-IsBooting place events chip is)
+    (events-unlisted events chip ∙ unlisted)
+
 on-IsReady :
     (events : List Event) (chip : State) → IsOn chip → chip.bus.accesses ≡ [] →
     IsReady (clocked (after_events events chip).boot (after_events events chip))
@@ -136,24 +146,41 @@ off-IsReady bench chip off is =
       place = subst (λ boot. IfSome boot IsPlace) (sym start) tt;
     }
 
+-- a tick without power, also where it found power on
+unpowered-IsReady : (bench : Stimulus) (chip : State) → IsSound chip → IsReady (stimulated bench (powered Off chip))
+unfolding stimulated powered
+unpowered-IsReady bench chip is = by_power chip.powered refl
+  where
+    found : IsOn (powered_on (began None chip))
+    found = powered_on-IsOn None chip is
+
+    by_power : (on : Bool) → chip.powered ≡ on → IsReady (stimulated bench (powered Off chip))
+    by_power false off = off-IsReady bench chip off is
+    by_power true on =
+        events-IsReady (on_tick chip.tick bench.events) (began None chip)
+        (subst
+        (λ test. IsOn (if test then began None chip else record (after_bor POWER_ON (began None chip)) { powered = true }))
+        on found)
+        is.unlisted
+
 -- ---- every tick
 
 by-IsReady :
-    (power : Power) (bench : Stimulus) (chip : State) → MayBeOff power chip → IsSound chip →
+    (power : Power) (bench : Stimulus) (chip : State) → IsSound chip →
     IsReady (stages power (stimulated bench (powered power chip))).ready
 unfolding stages timed powered stimulated
-by-IsReady On bench chip off is =
+by-IsReady On bench chip is =
     on-IsReady (on_tick (powered_on (begun_by On chip)).tick bench.events) (powered_on (begun_by On chip))
     (powered_on-IsOn None chip is) (powered_on-unlisted None chip ∙ is.unlisted)
-by-IsReady (Cut writes) bench chip off is =
+by-IsReady (Cut writes) bench chip is =
     on-IsReady (on_tick (powered_on (begun_by (Cut writes) chip)).tick bench.events)
     (powered_on (begun_by (Cut writes) chip)) (powered_on-IsOn (Some writes) chip is)
     (powered_on-unlisted (Some writes) chip ∙ is.unlisted)
-by-IsReady Off bench chip off is = off-IsReady bench chip off is
+by-IsReady Off bench chip is = unpowered-IsReady bench chip is
 
 pub ticks_make_ready : TicksMakeReady
 unfolding moments
-ticks_make_ready bench chip off is = by-IsReady (power_of bench chip) bench chip off is
+ticks_make_ready bench chip is = by-IsReady (power_of bench chip) bench chip is
 
 -- ---- the budget
 

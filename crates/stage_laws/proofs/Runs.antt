@@ -12,7 +12,7 @@ use Rattle.chip_core.specs.FirstState.{first_byte, first_memory, first_state}
 use Rattle.chip_core.specs.Lines.{lines_of}
 use Rattle.chip_core.specs.Phase.{is_private}
 use Rattle.chip_core.specs.State.{State}
-use Rattle.release_log.proofs.Begins.{run_keeps_facts, run_loses_power_by_cuts}
+use Rattle.release_log.proofs.Begins.{run_keeps_facts}
 use Rattle.stage_laws.specs.OneTick.{AgreeBehind}
 use Rattle.stage_laws.specs.Seen.{Seen, seen}
 use Rattle.stage_laws.specs.TwoRuns.{ImagesAgree, RunsAgree, RunsAlike, chip_before}
@@ -69,8 +69,8 @@ runs_agree one other bench (suc n) images items =
     let until : RunsAlike bench one other n =
     runs_agree one other bench n images (λ k before. items k (omega arith)) in
     let next : AgreeBehind bench a b =
-    one_tick_agrees bench a b (run_loses_power_by_cuts one bench n) (run_loses_power_by_cuts other bench n)
-    (run_keeps_facts one bench n) (run_keeps_facts other bench n) until.public (items n (omega arith)) in
+    one_tick_agrees bench a b (run_keeps_facts one bench n) (run_keeps_facts other bench n) until.public
+    (items n (omega arith)) in
     record {
       public = next.public;
       lines = λ k before. elim (cases_lt k n) [

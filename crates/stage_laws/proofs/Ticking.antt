@@ -466,13 +466,13 @@ stages-AgreeBehind bench a b same begins ends =
     }
 
 pub one_tick_agrees : OneTickAgrees
-one_tick_agrees bench a b off_a off_b sound_a sound_b same agree =
+one_tick_agrees bench a b sound_a sound_b same agree =
     let power : Power = power_of bench a in
     let x : State = ready_of bench a in
     let y : State = ready_of bench b in
     let begins : BeginAlike bench a b = beginnings_see_public bench a b sound_a sound_b same in
     stages-AgreeBehind bench a b same begins
     (subst (λ other. StagesAgree power other x y → StagesEnd power other x y) begins.power
-    (by-power power x y (ticks_make_ready bench a off_a sound_a) (ticks_make_ready bench b off_b sound_b)
+    (by-power power x y (ticks_make_ready bench a sound_a) (ticks_make_ready bench b sound_b)
     (ready-HasPower bench a sound_a) begins.chips (ticks_have_budgets bench a))
     (stages-agree bench a b agree))

@@ -4,8 +4,8 @@ use Rattle.stimulus.specs.Stimulus.{Stimulus}
 use Rattle.chip_core.specs.Items.{items_of}
 use Rattle.chip_core.specs.Lines.{lines_of}
 use Rattle.chip_core.specs.State.{State}
-use Rattle.chip_core.specs.Tick.{power_of, ticked}
-use Rattle.release_log.specs.Facts.{IsSound, MayBeOff}
+use Rattle.chip_core.specs.Tick.{ticked}
+use Rattle.release_log.specs.Facts.{IsSound}
 use Rattle.release_log.specs.SameItems.{AreSameItems}
 use Rattle.stage_laws.specs.Seen.{seen}
 
@@ -25,5 +25,4 @@ pub record AgreeBehind (bench : Stimulus) (a b : State) : Type 0 where
 abbrev pub OneTickAgrees : Type 0
 OneTickAgrees =
     (bench : Stimulus) (a b : State) →
-    MayBeOff (power_of bench a) a → MayBeOff (power_of bench b) b → IsSound a → IsSound b →
-    seen a ≡ seen b → ItemsAgree bench a b → AgreeBehind bench a b
+    IsSound a → IsSound b → seen a ≡ seen b → ItemsAgree bench a b → AgreeBehind bench a b

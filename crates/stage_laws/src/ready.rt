@@ -2,7 +2,6 @@ ghost use Rattle.stage_laws.specs.Ready.{TicksHaveBudgets, TicksMakeReady};
 
 /// When the owner of the bus acts, the facts of the chip that hold between two ticks still hold as far as the turn needs
 /// them.
-#[tactic(auto, using(crate::proofs::Readying::ticks_make_ready))]
 pub fn ticks_make_ready()
     ensures { TicksMakeReady }
 {}
