@@ -277,10 +277,10 @@ booting-public place chip boot =
     ap (λ up. up && not chip.halted && is_in (seal chip.bus.units.encap) (slice_index chip.registers PC)) up
 
 pub boot_steps_see_public : BootStepsSeePublic
-boot_steps_see_public power place a b ready_a ready_b boot alike told =
+boot_steps_see_public power place a b ready boot alike told =
     let same = LookAlike-face a b (booting-public place a boot) alike in
-    let is : IsPlace place = subst (λ boot. IfSome boot IsPlace) boot ready_a.place in
-    let turn : TurnAlike place a b = turn-alike power place a b is ready_a.borders same told in
+    let is : IsPlace place = subst (λ boot. IfSome boot IsPlace) boot ready.place in
+    let turn : TurnAlike place a b = turn-alike power place a b is ready.borders same told in
     record {
       chips = face-LookAlike _ _ turn.faces;
       public = λ public. record {

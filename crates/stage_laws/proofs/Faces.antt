@@ -5,6 +5,8 @@ use Rattle.chip_words.specs.declared.segments.Segment.TheVariants.{One, Two, Thr
 use Rattle.chip_words.specs.Bits.{has_bit}
 use Rattle.chip_words.specs.BusPart.{BusPart}
 use Rattle.chip_words.specs.Causes.{no_causes}
+use Rattle.chip_words.specs.Encap.{seal}
+use Rattle.chip_words.specs.Public.{IsSettled}
 use Rattle.chip_words.specs.Segments.{flag_of}
 use Rattle.chip_words.specs.Steps.{ended_at, ended_with, step_ended, violation_ended}
 use Rattle.access_laws.proofs.Masks.{hidden-twice}
@@ -82,6 +84,13 @@ LookAlike-outer a b alike =
     ∙ ap (λ budget. made (always_public b) budget a.bus.writes a.bus.noted) alike.budget
     ∙ ap (λ writes. made (always_public b) b.bus.budget writes a.bus.noted) alike.writes
     ∙ ap (made (always_public b) b.bus.budget b.bus.writes) alike.noted
+
+-- where the kept set of the one is its seal, so is that of the other: both are public
+pub outer-settled : (a b : State) → outer a ≡ outer b → IsSettled a.bus → IsSettled b.bus
+outer-settled a b same settled =
+    ap (λ (chip : State). chip.bus.kept) (sym same)
+    ∙ settled
+    ∙ ap (λ (chip : State). seal chip.bus.units.encap) same
 
 -- a part that is hidden in private phase
 open_same :

@@ -25,7 +25,7 @@ use Rattle.chip_core.specs.declared.owners.Owner.TheVariants.{Processor}
 use Rattle.chip_core.specs.Lines.{turn_lines}
 use Rattle.dma_unit.specs.Transfers.{passed}
 use Rattle.stage_laws.specs.PublicTurns.{PublicTurnsSeePublic}
-use Rattle.stage_laws.proofs.Faces.{LookAlike-face, face, face-LookAlike, private-face, step_ended-alike, with_bus}
+use Rattle.stage_laws.proofs.Faces.{LookAlike-face, LookAlike-outer, face, face-LookAlike, outer-settled, private-face, step_ended-alike, with_bus}
 
 -- two turns leave chips whose faces are equal
 abbrev pub TurnFaces : Turn → Turn → Type 0
@@ -190,10 +190,11 @@ unfolding step_owned
 no_boot chip = refl
 
 pub public_turns_see_public : PublicTurnsSeePublic
-public_turns_see_public a b ready_a ready_b up public alike =
+public_turns_see_public a b ready up public alike =
     let same = LookAlike-face a b public alike in
-    let up_b : is_up b ≡ true = ap is_up (sym same) ∙ up in
-    let faces = turn-faces a b (ready_a.settled up) (ready_b.settled up_b) up public same in
+    let settled : IsSettled a.bus = ready.settled up in
+    let settled_b : IsSettled b.bus = outer-settled a b (LookAlike-outer a b alike) settled in
+    let faces = turn-faces a b settled settled_b up public same in
     record {
       chips = face-LookAlike _ _ faces;
       public = λ public.

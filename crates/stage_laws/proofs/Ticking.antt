@@ -257,20 +257,20 @@ turning power a b are tells = by_boot a.boot a.second_tick (due (a.bus.units).dm
     by_phase true private none owns = IsPrivate (record { private = private; owner = owns })
     by_phase false public none owns =
         both-turn Processor a b owns (sym owners ∙ owns)
-        (public_turns_see_public a b are.first are.second (up none) public are.alike)
+        (public_turns_see_public a b are.first (up none) public are.alike)
 
     by_boot :
         (boot : Option Place) (second : Bool) (channel : Option ℕ) → a.boot ≡ boot →
         owner_of a ≡ owner_by boot second channel → Turning a b
     by_boot (Some place) second channel boot owns =
         both-turn (Boot place) a b owns (sym owners ∙ owns)
-        (boot_steps_see_public power place a b are.first are.second boot are.alike (tells place boot owns))
+        (boot_steps_see_public power place a b are.first boot are.alike (tells place boot owns))
     by_boot None true channel boot owns =
         both-turn SecondTick a b owns (sym owners ∙ owns)
-        (transfers_see_public SecondTick a b tt are.first are.second (up boot) are.alike)
+        (transfers_see_public SecondTick a b tt are.first (up boot) are.alike)
     by_boot None false (Some channel) boot owns =
         both-turn (Transfer channel) a b owns (sym owners ∙ owns)
-        (transfers_see_public (Transfer channel) a b tt are.first are.second (up boot) are.alike)
+        (transfers_see_public (Transfer channel) a b tt are.first (up boot) are.alike)
     by_boot None false None boot owns = by_phase (is_private a) refl boot owns
 
 -- the boot's step tells what its items do

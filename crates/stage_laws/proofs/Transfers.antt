@@ -17,11 +17,10 @@ use Rattle.release_log.proofs.Locked.{run-KeepsEncapsulation, step_ended-LeavesS
 use Rattle.chip_core.specs.declared.owners.Owner.{Owner}
 use Rattle.chip_core.specs.declared.owners.Owner.TheVariants.{Boot, Nobody, Processor, SecondTick, Transfer}
 use Rattle.chip_core.specs.Lines.{turn_lines}
-use Rattle.chip_core.specs.Phase.{is_up}
 use Rattle.chip_core.specs.State.{State}
 use Rattle.chip_core.specs.Turns.{moved, owned, step_owned, transfer_turn, with_dma}
 use Rattle.stage_laws.specs.Transfers.{IsOfDma, TransfersSeePublic}
-use Rattle.stage_laws.proofs.Faces.{LookAlike-outer, outer, step_ended-alike}
+use Rattle.stage_laws.proofs.Faces.{LookAlike-outer, outer, outer-settled, step_ended-alike}
 use Rattle.stage_laws.proofs.Passing.{IsPassed, passed-LookAlike, passed-faces}
 
 -- ---- the turn
@@ -123,12 +122,12 @@ lines-none owner chip dma =
     ∙ no_lines chip.halted (owned owner chip).chip (turn-IsPassed owner chip dma).halted
 
 pub transfers_see_public : TransfersSeePublic
-transfers_see_public owner a b dma ready_a ready_b up alike =
+transfers_see_public owner a b dma ready up alike =
     let passed_a : IsPassed a (owned owner a).chip = turn-IsPassed owner a dma in
     let passed_b : IsPassed b (owned owner b).chip = turn-IsPassed owner b dma in
     let same = LookAlike-outer a b alike in
-    let up_b : is_up b ≡ true = ap is_up (sym same) ∙ up in
-    let outers = turn-alike owner a b dma (ready_a.settled up) (ready_b.settled up_b) same in
+    let settled : IsSettled a.bus = ready.settled up in
+    let outers = turn-alike owner a b dma settled (outer-settled a b same settled) same in
     record {
       chips = passed-LookAlike a b _ _ alike passed_a passed_b outers;
       public = λ public.

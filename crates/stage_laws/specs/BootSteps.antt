@@ -31,5 +31,5 @@ pub record TellAlike (power : Power) (place : Place) (a b : State) : Type 0 wher
 -- each step of the boot, in a tick of whatever power, where it gives equal items
 abbrev pub BootStepsSeePublic : Type 0
 BootStepsSeePublic =
-    (power : Power) (place : Place) (a b : State) → IsReady a → IsReady b → a.boot ≡ Some place →
+    (power : Power) (place : Place) (a b : State) → IsReady a → a.boot ≡ Some place →
     LookAlike a b → TellAlike power place a b → TurnsAlike (Boot place) a b

@@ -26,5 +26,5 @@ pub record TurnsAlike (owner : Owner) (a b : State) : Type 0 where
 -- the processor's turn in public phase: it makes an instruction or an entry, halts, or goes on with what it did
 abbrev pub PublicTurnsSeePublic : Type 0
 PublicTurnsSeePublic =
-    (a b : State) → IsReady a → IsReady b → is_up a ≡ true → is_private a ≡ false → LookAlike a b →
+    (a b : State) → IsReady a → is_up a ≡ true → is_private a ≡ false → LookAlike a b →
     TurnsAlike Processor a b

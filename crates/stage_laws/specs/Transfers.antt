@@ -17,5 +17,5 @@ IsOfDma owner = ⊥
 -- either tick of a transfer, in public phase or in private phase
 abbrev pub TransfersSeePublic : Type 0
 TransfersSeePublic =
-    (owner : Owner) (a b : State) → IsOfDma owner → IsReady a → IsReady b → is_up a ≡ true →
-    LookAlike a b → TurnsAlike owner a b
+    (owner : Owner) (a b : State) → IsOfDma owner → IsReady a → is_up a ≡ true → LookAlike a b →
+    TurnsAlike owner a b
