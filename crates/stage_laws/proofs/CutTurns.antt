@@ -35,11 +35,11 @@ use Rattle.chip_core.specs.State.{State}
 use Rattle.chip_core.specs.Tick.{stages_from}
 use Rattle.chip_core.specs.Turns.{Turn, accepted_by, asked, entered, free_turn, instructed, is_halting, is_off, owned, owner_of, processor_turn, reserved_cause, without_step}
 use Rattle.stage_laws.specs.Cuts.{CutTurnsAgree, Lasting, lasting}
-use Rattle.stage_laws.specs.Seen.{IsReady, Seen, always_public}
+use Rattle.stage_laws.specs.Seen.{Seen, always_public}
 use Rattle.stage_laws.specs.Stages.{IsPrivateTurn, tick_items}
 use Rattle.stage_laws.proofs.CutTurning.{AreOrderly, AreReads, EndsInRead, LeavesLasting, both-reads, lasts, lasts-public, leaves-lasts, released-last, released-orderly, replay-reads, run-orderly}
 use Rattle.stage_laws.proofs.Leaving.{agent_of, replay-anyone}
-use Rattle.stage_laws.proofs.PrivateTurning.{private-halting, private-inside, private-locked, processor-owned, processor_turn-IsLeft, released-behind, rested, rested-IsReady, rested-private, rested-start, seen-IsPrivateTurn}
+use Rattle.stage_laws.proofs.PrivateTurning.{PublicFacts, private-halting, private-inside, private-locked, processor-owned, processor_turn-IsLeft, ready-PublicFacts, released-behind, rested, rested-PublicFacts, rested-private, rested-start, seen-IsPrivateTurn, seen-PublicFacts}
 use Rattle.stage_laws.proofs.Telling.{StepFetches, released_of, told-cut_tick, told_by}
 use Rattle.stage_laws.proofs.Vectors.{IsVector, accepted-vector, entered-ports, vector-open}
 
@@ -120,7 +120,7 @@ step-lasting chip vector ia step behind list locked inside same lists =
     ∙ replay-anyone vector ia part (released chip.bus.kept ran.accesses)
     ∙ ap (replay (agent_of vector NO_MEMORY) part) lists)
 
-instructed-IsCut : (chip : State) → IsReady chip → is_private chip ≡ true → IsCut chip (instructed chip)
+instructed-IsCut : (chip : State) → PublicFacts chip → is_private chip ≡ true → IsCut chip (instructed chip)
 unfolding instructed
 instructed-IsCut chip is private =
     let who : Agent = Cpu (slice_index chip.registers PC) in
@@ -169,7 +169,7 @@ entry-EndsInRead vector registers part is =
     list = access-list Entry Read vector Word 0 pushed
 
 entered-IsCut :
-    (vector : ℕ) (chip : State) → IsReady chip → is_private chip ≡ true → IsVector vector →
+    (vector : ℕ) (chip : State) → PublicFacts chip → is_private chip ≡ true → IsVector vector →
     IsCut chip (entered vector chip)
 unfolding entered
 entered-IsCut vector chip is private high =
@@ -184,7 +184,7 @@ entered-IsCut vector chip is private high =
     (entered-lasts chip vector ran.part) lists)
     (subst EndsInRead lists (entry-EndsInRead vector chip.registers chip.bus high))
 
-processor_turn-IsCut : (chip : State) → IsReady chip → is_private chip ≡ true → IsCut chip (processor_turn chip)
+processor_turn-IsCut : (chip : State) → PublicFacts chip → is_private chip ≡ true → IsCut chip (processor_turn chip)
 unfolding processor_turn
 processor_turn-IsCut chip is private =
     let busy : Turn = without_step (record chip { busy = chip.busy - 1 }) in
@@ -244,9 +244,9 @@ record IsCutTurn (writes : ℕ) (chip : State) : Type 0 where
   pub cut : IsCut (rested chip) (owned (owner_of chip) chip)
   pub told : (told_by (tick_items (Cut writes) chip)).accesses ≡ releases (rested chip) (owned (owner_of chip) chip)
 
-turn-IsCutTurn : (writes : ℕ) (chip : State) → IsReady chip → IsPrivateTurn chip → IsCutTurn writes chip
+turn-IsCutTurn : (writes : ℕ) (chip : State) → PublicFacts chip → IsPrivateTurn chip → IsCutTurn writes chip
 turn-IsCutTurn writes chip is turn = record {
-  cut = subst (IsCut now) (sym same) (processor_turn-IsCut now (rested-IsReady chip is) private);
+  cut = subst (IsCut now) (sym same) (processor_turn-IsCut now (rested-PublicFacts chip is) private);
   told =
       told-cut_tick writes (stages_from (Cut writes) chip) turn.private fetches
       ∙ ap (λ start. released_of start turns.step turns.chip) (sym (rested-start chip));
@@ -267,12 +267,14 @@ turn-IsCutTurn writes chip is turn = record {
     fetches : StepFetches turns.step turns.chip
     fetches =
         subst (λ (t : Turn). StepFetches t.step t.chip) (sym same)
-        (processor_turn-IsLeft now (rested-IsReady chip is) private).fetches
+        (processor_turn-IsLeft now (rested-PublicFacts chip is) private).fetches
 
 pub cut_turns_agree : CutTurnsAgree
-cut_turns_agree one other a b ready_a ready_b turn same items =
-    let x : IsCutTurn one a = turn-IsCutTurn one a ready_a turn in
-    let y : IsCutTurn other b = turn-IsCutTurn other b ready_b (seen-IsPrivateTurn a b same turn) in
+cut_turns_agree one other a b ready turn same items =
+    let facts : PublicFacts a = ready-PublicFacts a ready in
+    let x : IsCutTurn one a = turn-IsCutTurn one a facts turn in
+    let y : IsCutTurn other b =
+    turn-IsCutTurn other b (seen-PublicFacts a b same facts) (seen-IsPrivateTurn a b same turn) in
     cut-same (rested a) (rested b) (owned (owner_of a) a) (owned (owner_of b) b)
     (ap (λ (s : Seen). rested s.chip) same)
     (sym x.told ∙ ap (λ items. (told_by items).accesses) items ∙ y.told)

@@ -1,10 +1,10 @@
 -- The processor's turn in private phase leaves what its items tell.
-use Rattle.std.proofs.Common.{◌≡◌, ◌++◌, ◌-◌, ◌==◌, ◌&&◌, ◌||◌, not, ℕ, List, Bool, true, false, slice_index, arith, refl, ap, sym, ◌∙◌, subst, if◌then◌else◌}
+use Rattle.std.proofs.Common.{length, ◌≡◌, ◌++◌, ◌-◌, ◌==◌, ◌&&◌, ◌||◌, not, ℕ, List, Bool, true, false, slice_index, arith, refl, ap, sym, ◌∙◌, subst, if◌then◌else◌}
 use Rattle.std.specs.Prelude.{Option, Some, None, nat_lt}
 use Rattle.std.proofs.lemmas.Bool.Decides.{nat_tests}
 use Rattle.chip_words.specs.declared.accesses.Agent.TheVariants.{Cpu, Entry}
 use Rattle.chip_words.specs.BusPart.{BusPart}
-use Rattle.chip_words.specs.Causes.{least_cause, lesser_cause}
+use Rattle.chip_words.specs.Causes.{least_cause, lesser_cause, no_causes}
 use Rattle.chip_words.specs.Encap.{seal}
 use Rattle.chip_words.specs.Public.{IsLocked, IsSettled, public_part}
 use Rattle.chip_words.specs.Registers.{PC}
@@ -82,7 +82,21 @@ pub private-inside :
 unfolding is_private
 private-inside chip private = grind (arith, nat_tests)
 
-pub private-locked : (chip : State) → IsReady chip → is_private chip ≡ true → IsLocked chip.bus
+-- what a private turn needs of a chip. It is public, so it holds of each chip that looks the same
+pub record PublicFacts (chip : State) : Type 0 where
+  pub count : length (requests chip.bus) ≡ length no_causes
+  pub settled : is_up chip ≡ true → IsSettled chip.bus
+
+pub ready-PublicFacts : (chip : State) → IsReady chip → PublicFacts chip
+ready-PublicFacts chip is = record { count = is.count; settled = is.settled }
+
+pub seen-PublicFacts : (a b : State) → seen a ≡ seen b → PublicFacts a → PublicFacts b
+seen-PublicFacts a b same is =
+    let public : PublicFacts (always_public a) = record { count = is.count; settled = λ up. is.settled up } in
+    let other : PublicFacts (always_public b) = subst PublicFacts (ap (λ (s : Seen). s.chip) same) public in
+    record { count = other.count; settled = λ up. other.settled up }
+
+pub private-locked : (chip : State) → PublicFacts chip → is_private chip ≡ true → IsLocked chip.bus
 private-locked chip is private = record {
   settled = is.settled (private-up chip private);
   locked = inside-locked (chip.bus.units).encap (slice_index chip.registers PC) (private-inside chip private);
@@ -111,7 +125,7 @@ released-behind chip ran behind settled list =
     ap (λ seal. released seal ran.accesses) settled
     ∙ ap (released (start_of chip).seal) (sym list ∙ sym (step_ended-accesses behind))
 
-instructed-IsLeft : (chip : State) → IsReady chip → is_private chip ≡ true → IsLeft chip (instructed chip)
+instructed-IsLeft : (chip : State) → PublicFacts chip → is_private chip ≡ true → IsLeft chip (instructed chip)
 unfolding instructed
 instructed-IsLeft chip is private =
     let ia : ℕ = slice_index chip.registers PC in
@@ -138,7 +152,7 @@ instructed-IsLeft chip is private =
           (run-AreFetches (Cpu ia) step (begun chip.bus) (instruction-fetches chip.registers) tt);
     }
 
-entered-IsLeft : (vector : ℕ) (chip : State) → IsReady chip → is_private chip ≡ true → IsLeft chip (entered vector chip)
+entered-IsLeft : (vector : ℕ) (chip : State) → PublicFacts chip → is_private chip ≡ true → IsLeft chip (entered vector chip)
 unfolding entered
 entered-IsLeft vector chip is private =
     let step : Script (List ℕ) = entry vector chip.registers in
@@ -172,7 +186,7 @@ private-halting chip private =
     false-last false = refl
 
 pub processor_turn-IsLeft :
-    (chip : State) → IsReady chip → is_private chip ≡ true → IsLeft chip (processor_turn chip)
+    (chip : State) → PublicFacts chip → is_private chip ≡ true → IsLeft chip (processor_turn chip)
 unfolding processor_turn
 processor_turn-IsLeft chip is private =
     let busy : Turn = without_step (record chip { busy = chip.busy - 1 }) in
@@ -198,16 +212,8 @@ processor_turn-IsLeft chip is private =
 abbrev pub rested : State → State
 rested chip = with_dma passed chip
 
-pub rested-IsReady : (chip : State) → IsReady chip → IsReady (rested chip)
-rested-IsReady chip is = record {
-  registers = is.registers;
-  borders = is.borders;
-  count = is.count;
-  quiet = is.quiet;
-  unlisted = is.unlisted;
-  settled = λ up. is.settled up;
-  place = is.place;
-}
+pub rested-PublicFacts : (chip : State) → PublicFacts chip → PublicFacts (rested chip)
+rested-PublicFacts chip is = record { count = is.count; settled = λ up. is.settled up }
 
 pub rested-private : (chip : State) → is_private (rested chip) ≡ is_private chip
 unfolding is_private
@@ -250,7 +256,7 @@ processor-owned chip = refl
 record Leaves (chip : State) : Type 0 where
   pub left : left (turned chip) ≡ left_by (told_by (tick_items On chip)) (seen_rested (seen chip))
 
-turn-Leaves : (chip : State) → IsReady chip → IsPrivateTurn chip → Leaves chip
+turn-Leaves : (chip : State) → PublicFacts chip → IsPrivateTurn chip → Leaves chip
 turn-Leaves chip is turn = record {
   left =
       is_left.left
@@ -268,7 +274,7 @@ turn-Leaves chip is turn = record {
     is_left : IsLeft (rested chip) turns
     is_left =
         subst (IsLeft (rested chip)) (sym same)
-        (processor_turn-IsLeft (rested chip) (rested-IsReady chip is) (rested-private chip ∙ turn.private))
+        (processor_turn-IsLeft (rested chip) (rested-PublicFacts chip is) (rested-private chip ∙ turn.private))
 
     stages : Stages
     stages = stages_from On chip
@@ -279,9 +285,10 @@ turn-Leaves chip is turn = record {
     told = told-tick stages turn.private is_left.fetches
 
 pub private_turns_agree : PrivateTurnsAgree
-private_turns_agree a b ready_a ready_b turn same items =
-    let x = turn-Leaves a ready_a turn in
-    let y = turn-Leaves b ready_b (seen-IsPrivateTurn a b same turn) in
+private_turns_agree a b ready turn same items =
+    let facts : PublicFacts a = ready-PublicFacts a ready in
+    let x = turn-Leaves a facts turn in
+    let y = turn-Leaves b (seen-PublicFacts a b same facts) (seen-IsPrivateTurn a b same turn) in
     x.left
     ∙ ap (λ items. left_by (told_by items) (seen_rested (seen a))) items
     ∙ ap (λ s. left_by (told_by (tick_items On b)) (seen_rested s)) same
@@ -299,7 +306,7 @@ pub private_turn_shows_nothing : PrivateTurnShowsNothing
 unfolding step_owned
 private_turn_shows_nothing chip is turn =
     let stands : (turned chip).halted ≡ chip.halted =
-    ap (λ (l : Left). (l.chip).halted) (turn-Leaves chip is turn).left in
+    ap (λ (l : Left). (l.chip).halted) (turn-Leaves chip (ready-PublicFacts chip is) turn).left in
     ap (λ at. halt_lines at ++ boot_lines (step_owned (owner_of chip) chip) (turned chip))
     (same-halts chip.halted (turned chip).halted (slice_index (turned chip).registers PC) stands)
     ∙ ap (λ owner. boot_lines (step_owned owner chip) (turned chip)) turn.owner

@@ -44,7 +44,7 @@ use Rattle.release_log.proofs.Running.{GoesOn, owned-GoesOn}
 use Rattle.stage_laws.specs.Resets.{EndAlike, PrivateTicksEndAlike, PublicPartsAreLeft, PublicTicksEndAlike}
 use Rattle.stage_laws.specs.Seen.{IsReady, Left, Seen, always_public, left, seen, without_requests}
 use Rattle.stage_laws.specs.Stages.{tick_items, turned}
-use Rattle.stage_laws.proofs.PrivateTurning.{private-up, processor_turn-IsLeft, rested, rested-IsReady, rested-private, seen-owner}
+use Rattle.stage_laws.proofs.PrivateTurning.{private-up, processor_turn-IsLeft, ready-PublicFacts, rested, rested-PublicFacts, rested-private, seen-owner}
 use Rattle.stage_laws.proofs.Telling.{StepFetches, Told, Way, told-tick, told_by, way_of}
 
 -- ---- the reset vector is never sealed
@@ -265,7 +265,7 @@ private-IsOwned chip is private =
     fetching false (Some channel) =
         subst (λ step. StepFetches step (transfer_turn channel chip).chip) (sym (transfer_is_no_step channel chip)) tt
     fetching false None =
-        (processor_turn-IsLeft (rested chip) (rested-IsReady chip is) (rested-private chip ∙ private)).fetches
+        (processor_turn-IsLeft (rested chip) (rested-PublicFacts chip (ready-PublicFacts chip is)) (rested-private chip ∙ private)).fetches
 
 -- ---- how two ticks end
 

@@ -331,7 +331,7 @@ uncut-StagesEnd a b are agree = by_turn (turning On a b are tells)
         uncut-end a b
         (private_turn_shows_nothing a are.first turn ∙ sym (private_turn_shows_nothing b are.second other))
         (private_ticks_end_alike a b are.first are.second turn.private other.private
-        (private_turns_agree a b are.first are.second turn same agree.items) agree.items)
+        (private_turns_agree a b are.first turn same agree.items) agree.items)
     by_turn (IsPublic turns) = uncut-end a b turns.lines (by_phase (is_private a) refl turns)
 
 -- ---- a tick that is cut
@@ -356,7 +356,7 @@ cut-StagesEnd writes a b are cuts agree =
         (record { items = agree.items; bytes = agree.bytes }))
 
     by_turn : Turning a b → lasting (turned a) ≡ lasting (turned b)
-    by_turn (IsPrivate turn) = cut_turns_agree writes writes a b are.first are.second turn same agree.items
+    by_turn (IsPrivate turn) = cut_turns_agree writes writes a b are.first turn same agree.items
     by_turn (IsPublic turns) = public_parts_last (turned a) (turned b) turns.chips.public
 
 -- ---- a tick without power

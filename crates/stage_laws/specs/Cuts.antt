@@ -40,7 +40,7 @@ lasting chip = record {
 -- item; and one may be an entry where the other is an instruction, since a cut tick doesn't tell which.
 abbrev pub CutTurnsAgree : Type 0
 CutTurnsAgree =
-    (one other : ℕ) (a b : State) → IsReady a → IsReady b → IsPrivateTurn a → seen a ≡ seen b →
+    (one other : ℕ) (a b : State) → IsReady a → IsPrivateTurn a → seen a ≡ seen b →
     tick_items (Cut one) a ≡ tick_items (Cut other) b → lasting (turned a) ≡ lasting (turned b)
 
 -- equal public parts are equal in what outlasts

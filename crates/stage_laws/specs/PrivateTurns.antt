@@ -11,7 +11,7 @@ use Rattle.stage_laws.specs.Stages.{IsPrivateTurn, tick_items, turned}
 -- for the phase and the causes that are requested, of which it leaves the least one equal.
 abbrev pub PrivateTurnsAgree : Type 0
 PrivateTurnsAgree =
-    (a b : State) → IsReady a → IsReady b → IsPrivateTurn a → seen a ≡ seen b →
+    (a b : State) → IsReady a → IsPrivateTurn a → seen a ≡ seen b →
     tick_items On a ≡ tick_items On b → left (turned a) ≡ left (turned b)
 
 -- and it gives no line

@@ -2,7 +2,6 @@ ghost use Rattle.stage_laws.specs.Cuts.{CutTurnsAgree, CutsEndAlike, PublicParts
 
 /// In a tick that is cut a turn of the processor in private phase does to what outlasts what the items of the tick tell:
 /// where they are equal, it leaves equal what was equal.
-#[tactic(auto, using(crate::proofs::CutTurns::cut_turns_agree))]
 pub fn cut_turns_agree()
     ensures { CutTurnsAgree }
 {}

@@ -2,7 +2,6 @@ ghost use Rattle.stage_laws.specs.PrivateTurns.{PrivateTurnShowsNothing, Private
 
 /// A turn of the processor in private phase does to what is public what the items of its tick tell: where they are equal,
 /// it leaves equal what was equal.
-#[tactic(auto, using(crate::proofs::PrivateTurning::private_turns_agree))]
 pub fn private_turns_agree()
     ensures { PrivateTurnsAgree }
 {}
