@@ -302,11 +302,39 @@ same-halts false false at e = refl
 same-halts true false at e = refl
 same-halts false true at e = cc
 
+-- the processor stays as it is, halted or not
+abbrev StaysHalted : State → Turn → Type 0
+StaysHalted chip turn = turn.chip.halted ≡ chip.halted
+
+free_turn-StaysHalted : (vector : Option ℕ) (chip : State) → StaysHalted chip (free_turn vector chip)
+unfolding entered instructed
+free_turn-StaysHalted (Some vector) chip = refl
+free_turn-StaysHalted None chip =
+    either_holds (StaysHalted chip) (is_off chip) (without_step chip) (instructed chip) refl refl
+
+processor_turn-StaysHalted :
+    (chip : State) → is_private chip ≡ true → StaysHalted chip (processor_turn chip)
+unfolding processor_turn
+processor_turn-StaysHalted chip private =
+    let busy : Turn = without_step (record chip { busy = chip.busy - 1 }) in
+    let halting : Turn = without_step (record chip { halted = true; pending = false }) in
+    let free : Turn = free_turn (accepted_by chip) chip in
+    let still : Turn = if chip.halted || chip.dead then without_step chip else free in
+    let awake : Turn = if is_halting chip then halting else still in
+    let goes_on : awake ≡ still = unchosen (is_halting chip) halting still (private-halting chip private) in
+    either_holds (StaysHalted chip) (nat_lt 0 chip.busy) busy awake refl
+    (subst (StaysHalted chip) (sym goes_on)
+    (either_holds (StaysHalted chip) (chip.halted || chip.dead) (without_step chip) free refl
+    (free_turn-StaysHalted (accepted_by chip) chip)))
+
 pub private_turn_shows_nothing : PrivateTurnShowsNothing
 unfolding step_owned
-private_turn_shows_nothing chip is turn =
+private_turn_shows_nothing chip turn =
+    let now : State = rested chip in
     let stands : (turned chip).halted ≡ chip.halted =
-    ap (λ (l : Left). (l.chip).halted) (turn-Leaves chip (ready-PublicFacts chip is) turn).left in
+    ap (λ owner. (owned owner chip).chip.halted) turn.owner
+    ∙ ap (λ (t : Turn). t.chip.halted) (processor-owned chip)
+    ∙ processor_turn-StaysHalted now (rested-private chip ∙ turn.private) in
     ap (λ at. halt_lines at ++ boot_lines (step_owned (owner_of chip) chip) (turned chip))
     (same-halts chip.halted (turned chip).halted (slice_index (turned chip).registers PC) stands)
     ∙ ap (λ owner. boot_lines (step_owned owner chip) (turned chip)) turn.owner

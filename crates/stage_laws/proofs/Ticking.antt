@@ -329,7 +329,7 @@ uncut-StagesEnd a b are agree = by_turn (turning On a b are tells)
     by_turn (IsPrivate turn) =
         let other : IsPrivateTurn b = seen-IsPrivateTurn a b same turn in
         uncut-end a b
-        (private_turn_shows_nothing a are.first turn ∙ sym (private_turn_shows_nothing b are.second other))
+        (private_turn_shows_nothing a turn ∙ sym (private_turn_shows_nothing b other))
         (private_ticks_end_alike a b are.first are.second turn.private other.private
         (private_turns_agree a b are.first turn same agree.items) agree.items)
     by_turn (IsPublic turns) = uncut-end a b turns.lines (by_phase (is_private a) refl turns)

@@ -17,5 +17,5 @@ PrivateTurnsAgree =
 -- and it gives no line
 abbrev pub PrivateTurnShowsNothing : Type 0
 PrivateTurnShowsNothing =
-    (chip : State) → IsReady chip → IsPrivateTurn chip →
+    (chip : State) → IsPrivateTurn chip →
     turn_lines chip.halted (step_owned (owner_of chip) chip) (turned chip) ≡ []
