@@ -360,19 +360,15 @@ seen-whole : (chip : State) → seen chip ≡ seen_from (rest_of chip) chip.regi
 unfolding is_private
 seen-whole chip = refl
 
-abbrev registers_by : Option ℕ → List ℕ → ℕ → List ℕ
-registers_by (Some cause) registers vector =
+-- a cause leaves what the cause says of the registers, and nothing to be busy with
+abbrev registers_by : ℕ → List ℕ → ℕ → List ℕ
+registers_by cause registers vector =
     if is_of_bor cause then no_registers else with_register (with_register registers SR 0) PC vector
-registers_by None registers vector = registers
-
-abbrev busy_by : Option ℕ → ℕ → ℕ
-busy_by (Some cause) busy = 0
-busy_by None busy = busy
 
 cause-registers :
-    (cause : Option ℕ) (chip : State) →
-    (after_cause cause chip).registers ≡ registers_by cause chip.registers (reset_vector chip)
-cause-registers (Some cause) chip =
+    (cause : ℕ) (chip : State) →
+    (after_cause (Some cause) chip).registers ≡ registers_by cause chip.registers (reset_vector chip)
+cause-registers cause chip =
     elim (is_of_bor cause) as
     (λ v. (if v then after_bor cause chip else after_puc cause chip).registers
     ≡ (if v then no_registers
@@ -380,33 +376,30 @@ cause-registers (Some cause) chip =
       | true ↦ refl
       | false ↦ refl
     ]
-cause-registers None chip = refl
 
-cause-busy : (cause : Option ℕ) (chip : State) → (after_cause cause chip).busy ≡ busy_by cause chip.busy
-cause-busy (Some cause) chip =
+cause-idle : (cause : ℕ) (chip : State) → (after_cause (Some cause) chip).busy ≡ 0
+cause-idle cause chip =
     either_holds (λ (after : State). after.busy ≡ 0) (is_of_bor cause) (after_bor cause chip) (after_puc cause chip)
     refl refl
-cause-busy None chip = refl
 
 public-rests :
-    (cause : Option ℕ) (x y : State) → seen x ≡ seen y →
-    rest_of (after_cause cause x) ≡ rest_of (after_cause cause y)
-public-rests (Some cause) x y same =
+    (cause : ℕ) (x y : State) → seen x ≡ seen y →
+    rest_of (after_cause (Some cause) x) ≡ rest_of (after_cause (Some cause) y)
+public-rests cause x y same =
     cause-rest cause x ∙ ap (rest_by (Some cause)) (public_parts_are_left x y same) ∙ sym (cause-rest cause y)
-public-rests None x y same =
-    let rest_in : Seen → Rest = λ seen. record { chip = seen.chip; power = seen.power } in
-    ap rest_in same
 
+-- without a cause all stays as it is
 public-causes :
-    (cause : Option ℕ) (x y : State) → seen x ≡ seen y → x.registers ≡ y.registers → x.busy ≡ y.busy →
+    (cause : Option ℕ) (x y : State) → seen x ≡ seen y → x.registers ≡ y.registers →
     seen (after_cause cause x) ≡ seen (after_cause cause y)
-public-causes cause x y same registers busy =
+public-causes None x y same registers = same
+public-causes (Some cause) x y same registers =
     let vectors : reset_vector x ≡ reset_vector y =
     vector-hidden x.bus.kept x.bus.memory
     ∙ ap (λ (s : Seen). loaded s.chip.bus.memory RESET_VECTOR Word) same
     ∙ sym (vector-hidden y.bus.kept y.bus.memory) in
-    let one : State = after_cause cause x in
-    let other : State = after_cause cause y in
+    let one : State = after_cause (Some cause) x in
+    let other : State = after_cause (Some cause) y in
     seen-whole one
     ∙ ap (λ rest. seen_from rest one.registers one.busy) (public-rests cause x y same)
     ∙ ap (λ list. seen_from (rest_of other) list one.busy)
@@ -414,15 +407,13 @@ public-causes cause x y same registers busy =
     ∙ ap (λ list. registers_by cause list (reset_vector x)) registers
     ∙ ap (registers_by cause y.registers) vectors
     ∙ sym (cause-registers cause y))
-    ∙ ap (seen_from (rest_of other) other.registers)
-    (cause-busy cause x ∙ ap (busy_by cause) busy ∙ sym (cause-busy cause y))
+    ∙ ap (seen_from (rest_of other) other.registers) (cause-idle cause x ∙ sym (cause-idle cause y))
     ∙ sym (seen-whole other)
 
-public-resets :
-    (x y : State) → seen x ≡ seen y → x.registers ≡ y.registers → x.busy ≡ y.busy → seen (reset x) ≡ seen (reset y)
+public-resets : (x y : State) → seen x ≡ seen y → x.registers ≡ y.registers → seen (reset x) ≡ seen (reset y)
 unfolding reset
-public-resets x y same registers busy =
-    public-causes (taken_cause x) x y same registers busy
+public-resets x y same registers =
+    public-causes (taken_cause x) x y same registers
     ∙ ap (λ (s : Seen). seen (after_cause (taken_cause s.chip) y)) same
 
 -- ---- whether the boot ends goes by its place alone
@@ -461,7 +452,7 @@ owners-restart owner None a b = refl
 
 pub public_ticks_end_alike : PublicTicksEndAlike
 public_ticks_end_alike a b same turns =
-    ends a b (public-resets (turned a) (turned b) turns.public turns.registers turns.busy)
+    ends a b (public-resets (turned a) (turned b) turns.public turns.registers)
     (public_parts_are_left (turned a) (turned b) turns.public)
     (λ cause.
     owners-restart (owner_of a) cause a b

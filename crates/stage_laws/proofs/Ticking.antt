@@ -321,9 +321,8 @@ uncut-StagesEnd a b are agree = by_turn (turning On a b are tells)
         private_ticks_end_alike a b are.first are.second private (sym (seen-private a b same) ∙ private)
         (public_parts_are_left (turned a) (turned b) turns.chips.public) agree.items
     by_phase false public turns =
-        let computes : ComputeAlike (turned a) (turned b) = turns.public public in
         public_ticks_end_alike a b same
-        (record { public = turns.chips.public; registers = computes.registers; busy = computes.busy })
+        (record { public = turns.chips.public; registers = (turns.public public).registers })
 
     by_turn : Turning a b → StagesEnd On On a b
     by_turn (IsPrivate turn) =

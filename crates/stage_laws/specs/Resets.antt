@@ -30,11 +30,10 @@ PrivateTicksEndAlike =
 abbrev pub PublicPartsAreLeft : Type 0
 PublicPartsAreLeft = (a b : State) → seen a ≡ seen b → left a ≡ left b
 
--- a turn in public phase leaves equal what is public, the registers, and the cycles that the processor is busy
+-- a turn in public phase leaves equal what is public, and the registers, also where the phase became private
 pub record TurnedAlike (a b : State) : Type 0 where
   pub public : seen a ≡ seen b
   pub registers : a.registers ≡ b.registers
-  pub busy : a.busy ≡ b.busy
 
 -- Behind such a turn no item is needed, whoever owned the bus.
 abbrev pub PublicTicksEndAlike : Type 0
