@@ -18,3 +18,5 @@ pub mod Held
 pub mod Holds
 pub mod Lasts
 pub mod Unwritten
+pub mod SameItems
+pub mod MainFram
