@@ -39,6 +39,14 @@ BAD_IMAGE = Answer("", "capsule: bad image\n", 6)
 BAD_BENCH = Answer("", "capsule: bad bench\n", 7)
 
 
+class NotRun(Exception):
+    """A file isn't what it has to be. The answer tells it, and nothing is run."""
+
+    def __init__(self, answer: Answer):
+        super().__init__(answer.error)
+        self.answer = answer
+
+
 def run(image: bytes, bench: bytes | None, statistics: Counter) -> Answer:
     """The answer for the files of an image and of a bench, or of no bench."""
     return answers(image, bench, statistics).run
@@ -50,25 +58,30 @@ def release(image: bytes, bench: bytes, statistics: Counter) -> Answer:
 
 def answers(image: bytes, bench: bytes | None, statistics: Counter) -> Answers:
     """Without a bench, which `release` needs, it is answered as `run` is."""
-    if len(image) > LONGEST_IMAGE:
-        return refused(TOO_LONG)
     try:
-        store = images.store_of_image(image)
-    except images.Refused:
-        return refused(BAD_IMAGE)
-    if bench is None:
-        return whole_run(store, Bench(), statistics)
-    if len(bench) > LONGEST_BENCH:
-        return refused(TOO_LONG)
-    try:
-        right_bench = benches.bench_of_text(bench)
-    except benches.Refused:
-        return refused(BAD_BENCH)
+        store = store_of_file(image)
+        right_bench = Bench() if bench is None else bench_of_file(bench)
+    except NotRun as refused:
+        return Answers(refused.answer, refused.answer, has_seal=False)
     return whole_run(store, right_bench, statistics)
 
 
-def refused(answer: Answer) -> Answers:
-    return Answers(answer, answer, has_seal=False)
+def store_of_file(image: bytes) -> bytearray:
+    if len(image) > LONGEST_IMAGE:
+        raise NotRun(TOO_LONG)
+    try:
+        return images.store_of_image(image)
+    except images.Refused as refused:
+        raise NotRun(BAD_IMAGE) from refused
+
+
+def bench_of_file(bench: bytes) -> Bench:
+    if len(bench) > LONGEST_BENCH:
+        raise NotRun(TOO_LONG)
+    try:
+        return benches.bench_of_text(bench)
+    except benches.Refused as refused:
+        raise NotRun(BAD_BENCH) from refused
 
 
 def whole_run(store: bytearray, bench: Bench, statistics: Counter) -> Answers:
