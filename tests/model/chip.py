@@ -138,6 +138,7 @@ class Chip:
             self.statistics["cut of a processor that is still"] += 1
         else:
             self.statistics["cut of a processor at work"] += 1
+        self.statistics["cut in private phase"] += self.is_private_turn
 
     # Events
 

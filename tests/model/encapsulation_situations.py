@@ -67,6 +67,18 @@ def call_in(rng: random.Random, code: Code) -> None:
     end(rng, code)
 
 
+def call_doors(rng: random.Random, code: Code) -> None:
+    """Of a library that is sealed already, and what others can find out of that."""
+    for _ in range(rng.randrange(1, 6)):
+        call_door(rng, code)
+        if rng.random() < 0.2:
+            rng.choice(DATA)(rng, code)
+        if rng.random() < 0.2:
+            show_violation(rng, code)
+        if rng.random() < 0.3:
+            actions.show_register(rng, code)
+
+
 def call_in_a_loop(rng: random.Random, code: Code) -> None:
     """Most of the time inside, where a halt has to wait. The first doors lead out again soonest."""
     encapsulate(rng, code, vault_area(rng, code), lock_share=0.9)

@@ -96,6 +96,7 @@ class Program:
     def __init__(self, rng: random.Random):
         self.codes: list[Code] = []
         self.single_words: dict[int, int] = {}
+        self.other_words: dict[int, int] = {}  # of another version of a library's code
         self.low_slots = rng.sample(LOW_SLOTS, len(LOW_SLOTS))
         self.high_slots = rng.sample(HIGH_SLOTS, len(HIGH_SLOTS))
         self.information_is_free = True

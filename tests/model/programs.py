@@ -12,6 +12,7 @@ import actions
 import assembler
 import dma_actions
 import encapsulation_routines
+import libraries
 import protection_routines
 import structures
 import timer_actions
@@ -54,6 +55,7 @@ class Style:
     loops: float = 0.35  # the share of chapters that begin again at their end
     rescued: float = 0.0  # the share of programs that the watchdog resets again and again
     has_vault: bool = False  # code that is to be encapsulated
+    has_library: bool = False  # which is one that works with secrets
     structures: float = 0.0  # the share of programs that have structures for a boot
     wrong_structures: float = 0.0  # of which this share has a bad check
     structures_outside: float = 0.0  # and this share lies outside of FRAM
@@ -77,7 +79,10 @@ def random_program(rng: random.Random, style: Style) -> Program:
     write_protection(rng, program, start)
     if style.has_vault:
         encapsulation_routines.write_helper(rng, program)
-        encapsulation_routines.write_vault(rng, program)
+        if style.has_library:
+            libraries.write_library(rng, program)
+        else:
+            encapsulation_routines.write_vault(rng, program)
         encapsulation_routines.write_beginning(rng, start)
         encapsulation_routines.write_closing_words(rng, program, start)
     chapters = [program.code_anywhere(rng) for _ in range(rng.choice((1, 2, 4, style.chapters)))]

@@ -23,6 +23,7 @@ def report(kinds: Counter, statistics: Counter) -> str:
     lines += debug_lines(statistics)
     lines += power_lines(statistics)
     lines += release_lines(statistics)
+    lines += pair_lines(statistics)
     return "\n".join(wrapped(line) for line in lines) + "\n"
 
 
@@ -86,7 +87,7 @@ def power_lines(statistics: Counter) -> list[str]:
     cuts = starting(statistics, "cut ")
     return [
         f"boots, and what they found: {listed(starting(statistics, 'boot: '))}",
-        f"cuts: {cuts.total()}, by where they came: {listed(cuts)}",
+        f"cuts: {cuts.total() - cuts['in private phase']}, by where they came: {listed(cuts)}",
         f"writes in the tick of a cut, whole: {listed(starting(statistics, 'whole in a cut: '))}",
         f"and absent: {listed(starting(statistics, 'absent in a cut: '))}",
     ]
@@ -97,6 +98,16 @@ def release_lines(statistics: Counter) -> list[str]:
     return [
         f"release lists that were asked for: {statistics['releases']}",
         f"items: {items.total()}, by kind: {listed(items)}",
+    ]
+
+
+def pair_lines(statistics: Counter) -> list[str]:
+    ends = starting(statistics, "pair of ")
+    return [
+        f"pairs that were asked for: {statistics['pairs']}",
+        f"ticks of which both runs were compared: {statistics['ticks of pairs']}",
+        f"their exit numbers: {listed(starting(statistics, 'exit of a pair '))}",
+        f"by what they differ in, and what was answered: {listed(ends)}",
     ]
 
 

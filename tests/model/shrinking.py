@@ -7,15 +7,46 @@ from assembler import NOP
 from bench import Bench
 from cases import Case
 from image import Segment
+from pair_cases import PairCase
 
 Differs = Callable[[Case], bool]
+PairDiffers = Callable[[PairCase], bool]
 
 NOP_BYTES = NOP.to_bytes(2, "little")
 LONGEST_RUN = 64  # as many words are replaced at once, at first
 
 
-def shrunk(case: Case, differs: Differs, tick: int | None) -> Case:
+def shrunk(
+    case: Case | PairCase, differs: Differs | PairDiffers, tick: int | None
+) -> Case | PairCase:
     """The smaller case. `tick` is that of the first line that differs, where it is known."""
+    if isinstance(case, PairCase):
+        return shrunk_pair(case, differs, tick)
+    return shrunk_case(case, differs, tick)
+
+
+def shrunk_pair(pair: PairCase, differs: PairDiffers, tick: int | None) -> PairCase:
+    """What the second image has besides becomes less too."""
+    pair = fewer_changes(pair, differs)
+    case = shrunk_case(pair.case, lambda case: differs(replace(pair, case=case)), tick)
+    return fewer_changes(replace(pair, case=case), differs)
+
+
+def fewer_changes(pair: PairCase, differs: PairDiffers) -> PairCase:
+    size = max(1, len(pair.changes) // 2)
+    while size:
+        first = 0
+        while first < len(pair.changes):
+            fewer = replace(pair, changes=pair.changes[:first] + pair.changes[first + size:])
+            if differs(fewer):
+                pair = fewer
+            else:
+                first += size
+        size //= 2
+    return pair
+
+
+def shrunk_case(case: Case, differs: Differs, tick: int | None) -> Case:
     if case.refused_image is not None or case.refused_bench is not None:
         return case
     case = with_bench(case, differs)

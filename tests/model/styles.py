@@ -172,6 +172,21 @@ ERASES = Style(
     wrong_structures=0.25, structures_outside=0.08, counts_in_fram=0.8,
 )
 
+# Libraries that a boot seals, for pairs of images
+
+LIBRARIES = Style(
+    weights=(
+        (encapsulation_situations.call_doors, 14), (encapsulation_situations.transfer, 1.5),
+        (encapsulation_situations.act_in_a_situation, 1), (dma_actions.act_on_dma, 1),
+        (timer_actions.set_up, 1), (actions.enable_port_interrupts, 1), (actions.wait, 0.5),
+        (actions.act_on_status, 1), (actions.set_watchdog, 0.3), (power_actions.write_something, 1),
+        (boot_actions.act_on_boots, 0.3), (protection_situations.act_in_a_situation, 0.7),
+        (random_instructions, 0.5),
+    ),
+    interrupts=0.5, longest_chapter=14, loops=0.4, has_vault=True, has_library=True,
+    counts_in_fram=0.5,
+)
+
 STYLES_WITHOUT_PROTECTION = {
     "instructions": INSTRUCTIONS, "system": SYSTEM, "interrupts": INTERRUPTS, "loops": LOOPS,
     "timers": TIMERS, "timers and interrupts": TIMERS_WITH_INTERRUPTS,
