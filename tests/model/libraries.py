@@ -6,7 +6,7 @@ what it used before it goes on, but for a few parts that let something out.
 """
 
 import random
-from collections.abc import Callable
+from collections.abc import Callable, Sequence
 
 import actions
 import assembler
@@ -35,6 +35,7 @@ SHARE_OF_LEAKS = 0.06
 
 SHARE_OF_USUAL_AREAS = 0.9
 SHARE_OF_WIDE_AREAS = 0.3
+SHARE_OF_AREAS_WITH_VECTORS = 0.05
 SHARE_OF_STRUCTURES_INSIDE = 0.5
 
 
@@ -73,11 +74,13 @@ class Twin:
 
 
 Part = Callable[[random.Random, Twin], None]
+Work = Sequence[tuple[Callable[[random.Random, Code], None], float]]  # and how often each comes
 
 
 # Data
 
-def write_library(rng: random.Random, program: Program) -> None:
+def write_library(rng: random.Random, program: Program, work: Work) -> None:
+    """`work` is what it does that has nothing to do with secrets."""
     vault = program.places.vault
     write_structures(rng, program)
     data = Twin(program.code(vault.data, VAULT_DATA_SIZE), program.other_words)
@@ -89,7 +92,7 @@ def write_library(rng: random.Random, program: Program) -> None:
     for _ in range(rng.randrange(3, 8)):
         if twin.code.rest < WORDS_OF_A_DOOR:
             break
-        write_door(rng, twin)
+        write_door(rng, twin, work)
 
 
 def write_structures(rng: random.Random, program: Program) -> None:
@@ -113,6 +116,8 @@ def words_of_structure(rng: random.Random, places: Places) -> list[int]:
     first, end = places.vault.first, places.vault.end
     if rng.random() < SHARE_OF_WIDE_AREAS:  # other code lies in it too
         first, end = max(first - GRAIN * rng.randrange(3), 0), end + GRAIN * rng.randrange(3)
+    elif rng.random() < SHARE_OF_AREAS_WITH_VECTORS:  # which aren't sealed
+        first, end = min(first, 0xFC00), max(end, rng.choice((0x10000, 0x10400, 0x14000)))
     words = [control, end >> 4 & 0xFFFF, first >> 4]
     return [*words, structures.right_check(words)]
 
@@ -127,7 +132,7 @@ def free_address(rng: random.Random, code: Code) -> int:
 
 # Doors
 
-def write_door(rng: random.Random, twin: Twin) -> None:
+def write_door(rng: random.Random, twin: Twin, work: Work) -> None:
     code = twin.code
     code.places.vault.doors.append(code.here)
     last = code.here + 2 * (WORDS_OF_A_DOOR - 100)
@@ -135,8 +140,8 @@ def write_door(rng: random.Random, twin: Twin) -> None:
         if code.here > last:
             break
         if rng.random() < 0.3:
-            work, = rng.choices(*zip(*WORK_WITHOUT_SECRETS))
-            work(rng, code)
+            act, = rng.choices(*zip(*work))
+            act(rng, code)
         elif rng.random() < 0.2:
             move_secrets(rng, twin)
         else:
@@ -333,6 +338,9 @@ def move_secrets(rng: random.Random, twin: Twin) -> None:
 
 def show_all(rng: random.Random, twin: Twin) -> None:
     number = twin.a_secret(rng)
+    if rng.random() < 0.3:
+        twin.put([0x0060 | number << 8, 0x1C90])  # MOVA, which writes two words
+        return
     twin.put(two("MOV", register(number), absolute(rng.choice((*actions.PORT_OUTPUTS, 0x1C90)))))
 
 
@@ -343,7 +351,11 @@ def show_a_bit(rng: random.Random, twin: Twin) -> None:
 
 
 def leave_in_a_register(rng: random.Random, twin: Twin) -> None:
-    twin.secret.remove(twin.a_secret(rng))
+    number = twin.a_secret(rng)
+    if rng.random() < 0.5:
+        twin.put(two("MOV", register(number), register(rng.randrange(12, 16))))
+    else:
+        twin.secret.remove(number)
 
 
 def leave_in_a_stack(rng: random.Random, twin: Twin) -> None:
@@ -411,14 +423,17 @@ def use_own_stack(rng: random.Random, code: Code) -> None:
     code.put([0x0020 | assembler.SP, encapsulation_routines.KEPT_STACK])
 
 
-WORK_WITHOUT_SECRETS = (
-    (use_own_stack, 2), (encapsulation_routines.use_other_stack, 0.2),
-    (encapsulation_routines.be_interrupted, 2),
-    (encapsulation_routines.stay, 2), (encapsulation_routines.sleep, 0.5),
-    (encapsulation_routines.call_helper, 2), (encapsulation_routines.call_own_words, 1),
-    (encapsulation_routines.violate_segments, 1), (encapsulation_actions.write_registers, 0.4),
-    (encapsulation_routines.ask_for_reset, 0.15), (actions.act_on_ports, 2),
-    (actions.show_register, 1), (dma_actions.set_up, 1.5), (timer_actions.set_up, 1.5),
-    (protection_actions.set_waits, 0.5), (encapsulation_actions.show_violation, 1),
-    (boot_actions.act_on_boots, 0.4), (protection_situations.write_one, 1),
+CALM_WORK = (
+    (use_own_stack, 2), (encapsulation_routines.be_interrupted, 2),
+    (encapsulation_routines.stay, 0.5), (encapsulation_routines.call_helper, 1),
+    (encapsulation_routines.call_own_words, 1), (actions.act_on_ports, 2),
+    (actions.show_register, 1), (timer_actions.set_up, 0.5), (protection_actions.set_waits, 0.2),
+    (encapsulation_actions.show_violation, 1),
+)
+WORK = (
+    *CALM_WORK, (encapsulation_routines.stay, 1.5), (encapsulation_routines.sleep, 0.3),
+    (encapsulation_routines.use_other_stack, 0.2), (encapsulation_routines.violate_segments, 0.7),
+    (encapsulation_actions.write_registers, 0.4), (encapsulation_routines.ask_for_reset, 0.15),
+    (dma_actions.set_up, 1.5), (timer_actions.set_up, 1), (boot_actions.act_on_boots, 0.4),
+    (protection_situations.write_one, 1),
 )

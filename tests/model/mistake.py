@@ -11,6 +11,7 @@ class Mistake:
     right: str
     wrong: str
     unseen_because: str = ""  # why no trace can show it, where that is so
+    of_pairs: bool = False  # in what is told of two images
 
     def put_into(self, folder: Path) -> None:
         path = folder / self.file

@@ -4,38 +4,44 @@ A pair is a case and what the second image has besides, in headers behind all ot
 """
 
 import random
+from collections import Counter
 from collections.abc import Callable
-from dataclasses import dataclass, field
+from dataclasses import dataclass, field, replace
 
 import boot_sessions
 import cases
 import debug_situations
 import encapsulation
 import seals
+import single_items
 import structures
-from bench import Bench
+from bench import Bench, Event
 from boot import borders_of_image
 from cases import Case
-from debug import Reset, WriteWord
+from debug import Go, Halt, ReadRegister, ReadWord, Reset, WriteWord
 from debug_situations import Session, Targets, Timed
 from image import Segment, image_bytes, store_of_image
 from latch import Latch
 from layout import Program, words_as_bytes
 from memory import is_fram
+from pair import pair as compared
 from player import Player, random_temper
 from power import Cut
 from programs import random_program
 from protection_actions import GRAIN
 from seals import BYTES_OF_A_ROW, Seal
 from spoiled_files import spoiled_bench, spoiled_image
-from styles import LIBRARIES, STYLES, STYLES_WITH_CUTS
+from styles import CALM_LIBRARIES, LIBRARIES, STYLES, STYLES_WITH_CUTS
 from system import Cause
 
 ENDS_OF_FRAM = (0x1800, 0x19FF, 0x4400, 0x13FFF, 0xFF7F, 0xFF80, 0xFFFF, 0x10000)
-SHARE_OF_LIBRARIES = 0.65
+SHARE_OF_LIBRARIES = 0.7
+SHARE_OF_CALM_LIBRARIES = 0.6
 SHARE_OF_ANY_CASE = 0.06  # most of which have no seal
 TRIES = 12  # until an image has a seal
 CHANCE_OF_A_CUT_INSIDE = 0.3
+SHARE_AT_THE_DIFFERENCE = 0.35
+PLACE_OF_A_LOOK = 0x1A00  # it reads the same at all times
 
 
 @dataclass
@@ -102,9 +108,28 @@ def random_pair(seed: int, index: int, inside_alone: bool = False) -> PairCase:
     sources = random_sources(rng, inside_alone)
     kinds = INSIDE if inside_alone or rng.random() < 0.6 else OTHERS
     kind, = rng.choices(tuple(kinds), [share for share, _ in kinds.values()])
-    pair = kinds[kind][1](rng, sources)
-    pair.kind = kind
-    return pair
+    made = kinds[kind][1](rng, sources)
+    made.kind = kind
+    if made.refused_second is None and rng.random() < SHARE_AT_THE_DIFFERENCE:
+        meet_the_difference(rng, made)
+    return made
+
+
+def meet_the_difference(rng: random.Random, made: PairCase) -> None:
+    """Lets something come in the tick whose items differ first, or in the one before."""
+    bench = made.case.bench
+    found = compared(made.first_file(), made.second_file(), made.bench_file(), Counter())
+    if "differ release" not in found.answer.output:
+        return
+    last = found.ticks - 1
+    tick = max(last - rng.choice((0, 0, 1)), 0)
+    if rng.random() < 0.5:
+        looks = [Event(tick, ReadWord(PLACE_OF_A_LOOK)) for _ in range(rng.randrange(1, 3))]
+        events = sorted(bench.events + looks, key=lambda event: event.tick)
+        bench.events = debug_situations.at_most_eight_in_a_tick(events)
+    else:
+        bench.cuts = [cut for cut in bench.cuts if cut.tick + cut.off < tick]
+        bench.cuts.append(Cut(tick, rng.choice((0, 1, 2, 64)), rng.choice((1, 3, 30))))
 
 
 def random_sources(rng: random.Random, inside_alone: bool) -> Sources:
@@ -135,16 +160,21 @@ def case_of(rng: random.Random, kind: str, program: Program) -> Sources:
 
 
 def library_case(rng: random.Random) -> Sources:
-    program = random_program(rng, LIBRARIES)
+    """A calm one leaves most of its time to the library."""
+    is_calm = rng.random() < SHARE_OF_CALM_LIBRARIES
+    sessions = CALM_SESSIONS if is_calm else SESSIONS
+    program = random_program(rng, CALM_LIBRARIES if is_calm else LIBRARIES)
     bench = cases.random_bench(rng) or Bench()
     bench.end = rng.randrange(200, 6000)
     bench.events = [event for event in bench.events if event.tick < bench.end]
-    case = Case("library", program.segments(), bench)
+    case = Case("calm library" if is_calm else "library", program.segments(), bench)
     sources = Sources(program, case)
     if rng.random() < 0.7:
-        cases.add_sessions(rng, bench, program, SESSIONS)
+        cases.add_sessions(rng, bench, program, sessions)
     targets = Targets(rng, program.places, program.codes)
-    temper = random_temper(rng, 0.2, SESSIONS)
+    temper = random_temper(rng, 0.2, sessions)
+    if is_calm:
+        temper = replace(temper, most_cuts=rng.choice((0, 1, 3, 8)), pace=rng.choice((200, 600)))
     case.bench = PairPlayer(rng, sources.store, bench, targets, temper).play()
     return sources
 
@@ -170,6 +200,13 @@ def move_a_border(rng: random.Random, targets: Targets) -> list[Timed]:
     return [*((0, write) for write in writes), (1, Reset())]
 
 
+def wait_for_a_halt(rng: random.Random, targets: Targets) -> list[Timed]:
+    """A halt that comes outside at last, and a look at all that it shows."""
+    tick = rng.choice((10, 100, 300))
+    looks = [(tick, ReadRegister(number)) for number in rng.sample(range(16), 6)]
+    return [(0, Halt()), *looks, (tick + 1, Go())]
+
+
 def fill_by_dma(rng: random.Random, targets: Targets) -> list[Timed]:
     """A block out of the library or into it, a byte for each pin, by a channel of the debugger."""
     inside = targets.vault.random_free_address(rng)
@@ -182,6 +219,10 @@ def fill_by_dma(rng: random.Random, targets: Targets) -> list[Timed]:
         0x0510, rng.choice((0x03D1, 0x1311, 0x2F11, 0x0FD1))))]
 
 
+CALM_SESSIONS: tuple[tuple[Session, float], ...] = (
+    (move_a_border, 0.5), (fill_by_dma, 5), (debug_situations.glance, 4), (wait_for_a_halt, 2),
+    (boot_sessions.look_at_what_boots, 1), (debug_situations.read_timers, 1),
+)
 SESSIONS: tuple[tuple[Session, float], ...] = (
     (move_a_border, 3), (fill_by_dma, 5), (debug_situations.halt_on_the_way, 3),
     (boot_sessions.write_in_a_row, 3), (boot_sessions.look_at_what_boots, 3),
@@ -259,9 +300,11 @@ def outside(rng: random.Random, sources: Sources) -> PairCase:
 def other_seal(rng: random.Random, sources: Sources) -> PairCase:
     """Another structure, another pointer or signature: the seals may be the same all the same."""
     places, at = sources.program.places, sources.structure().start
-    kind = rng.randrange(5)
+    kind = rng.randrange(6)
     if kind == 0:
         words = structures.random_words(rng, places, 0.1)
+    elif kind == 5:
+        words = moved_borders(rng, sources)
     elif kind == 1:
         words = [sources.word(at + 2 * index) for index in range(3)]
         words[rng.randrange(3)] ^= rng.choice((0x40, 0x80, 0x20, 0x01, 0x400))
@@ -277,6 +320,16 @@ def other_seal(rng: random.Random, sources: Sources) -> PairCase:
     pair = outside(rng, sources) if rng.random() < 0.2 else PairCase("", sources.case)
     pair.changes.append(Segment(at, words_as_bytes(words)))
     return pair
+
+
+def moved_borders(rng: random.Random, sources: Sources) -> list[int]:
+    """Both by as much, or one of them, upward or downward."""
+    at = sources.structure().start
+    control, second, first = (sources.word(at + 2 * index) for index in range(3))
+    way = rng.choice((0x40, -0x40))
+    by_second, by_first = rng.choice(((way, way), (way, 0), (0, way)))
+    words = [control, second + by_second & 0xFFFF, first + by_first & 0xFFFF]
+    return [*words, structures.right_check(words)]
 
 
 def registers_of_the_same_seal(rng: random.Random, sources: Sources) -> list[int]:
@@ -302,6 +355,13 @@ def nothing(rng: random.Random, sources: Sources) -> PairCase:
     return PairCase("", sources.case, changes)
 
 
+def single_item(rng: random.Random, sources: Sources) -> PairCase:
+    """Two small images in place of those that were made."""
+    name, two, bench = single_items.random_two(rng)
+    case = Case(f"single {name}", two.segments(), bench)
+    return PairCase("", case, two.changes())
+
+
 def one_name(rng: random.Random, sources: Sources) -> PairCase:
     return PairCase("", sources.case, is_one_name=True)
 
@@ -323,9 +383,10 @@ Change = Callable[[random.Random, Sources], PairCase]
 # By its name: how often each comes, and what it makes.
 INSIDE: dict[str, tuple[float, Change]] = {
     "secrets": (12, secrets), "data": (3, data), "sealed bytes": (4, sealed_bytes),
-    "ends of the seal": (2, ends_of_the_seal), "the structure": (1, the_structure),
+    "ends of the seal": (1.5, ends_of_the_seal), "the structure": (0.5, the_structure),
+    "single items": (2.5, single_item),
 }
 OTHERS: dict[str, tuple[float, Change]] = {
     "outside": (4, outside), "other seal": (5, other_seal), "nothing": (1.5, nothing),
-    "one name": (1, one_name), "spoiled files": (2, spoiled),
+    "one name": (1, one_name), "spoiled files": (3, spoiled),
 }

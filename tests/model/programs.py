@@ -55,7 +55,8 @@ class Style:
     loops: float = 0.35  # the share of chapters that begin again at their end
     rescued: float = 0.0  # the share of programs that the watchdog resets again and again
     has_vault: bool = False  # code that is to be encapsulated
-    has_library: bool = False  # which is one that works with secrets
+    has_short_start: bool = False  # which looks at nothing, and sets no waits
+    library: libraries.Work | None = None  # where that is a library: what it does besides
     structures: float = 0.0  # the share of programs that have structures for a boot
     wrong_structures: float = 0.0  # of which this share has a bad check
     structures_outside: float = 0.0  # and this share lies outside of FRAM
@@ -76,15 +77,11 @@ def random_program(rng: random.Random, style: Style) -> Program:
         structures.write_structures(
             rng, program, style.wrong_structures, style.structures_outside
         )
-    write_protection(rng, program, start)
+    write_protection(rng, program)
+    if not style.has_short_start:
+        protection_routines.write_beginning(rng, start)
     if style.has_vault:
-        encapsulation_routines.write_helper(rng, program)
-        if style.has_library:
-            libraries.write_library(rng, program)
-        else:
-            encapsulation_routines.write_vault(rng, program)
-        encapsulation_routines.write_beginning(rng, start)
-        encapsulation_routines.write_closing_words(rng, program, start)
+        write_vault(rng, program, start, style)
     chapters = [program.code_anywhere(rng) for _ in range(rng.choice((1, 2, 4, style.chapters)))]
     program.single_words[RESET_VECTOR] = start.address | (rng.random() < 0.1)
     write_start(rng, program, start, chapters, style)
@@ -95,15 +92,25 @@ def random_program(rng: random.Random, style: Style) -> Program:
     return program
 
 
-def write_protection(rng: random.Random, program: Program, start: Code) -> None:
-    """The NMI's routine, the bridge, and the beginning of the start."""
+def write_protection(rng: random.Random, program: Program) -> None:
+    """The NMI's routine and the bridge."""
     nmi = program.low_code()
     program.places.nmi = nmi.address
     if rng.random() < 0.97:
         program.single_words[protection_routines.NMI_VECTOR] = nmi.address | (rng.random() < 0.1)
     protection_routines.write_bridge(rng, program)
     protection_routines.write_nmi_routine(rng, nmi)
-    protection_routines.write_beginning(rng, start)
+
+
+def write_vault(rng: random.Random, program: Program, start: Code, style: Style) -> None:
+    encapsulation_routines.write_helper(rng, program)
+    if style.library is not None:
+        libraries.write_library(rng, program, style.library)
+    else:
+        encapsulation_routines.write_vault(rng, program)
+    if not style.has_short_start:
+        encapsulation_routines.write_beginning(rng, start)
+        encapsulation_routines.write_closing_words(rng, program, start)
 
 
 def spoil(rng: random.Random, program: Program) -> None:
@@ -136,7 +143,7 @@ def write_start(
         actions.open_pins(rng, start)
     if rng.random() < 0.8:
         start.put(assembler.copy(actions.SYSRSTIV, rng.choice(actions.PORT_OUTPUTS)))
-    if rng.random() < 0.4:
+    if rng.random() < 0.4 and not style.has_short_start:
         show_what_a_reset_left(rng, start)
     stack = random_stack(rng)
     start.put(assembler.set_register(assembler.SP, stack))

@@ -19,12 +19,18 @@ from pair import Chips, LawBroken
 from seals import Seal
 
 PLAIN = (int, list, dict, frozenset, Enum, Borders)  # what the state of a unit is made of
+NAMES_OF_STATE: dict[type, list[str]] = {}
 
 
-def state(unit) -> dict:
+def state(unit) -> list:
     """What a unit holds. What it only leads to, and counts for a report, is left out."""
-    return {name: value for name, value in vars(unit).items()
-            if isinstance(value, PLAIN) and not isinstance(value, Counter)}
+    held = vars(unit)
+    if type(unit) not in NAMES_OF_STATE:
+        NAMES_OF_STATE[type(unit)] = [
+            name for name, value in held.items()
+            if isinstance(value, PLAIN) and not isinstance(value, Counter)
+        ]
+    return [held[name] for name in NAMES_OF_STATE[type(unit)]]
 
 
 @lru_cache(maxsize=64)

@@ -6,6 +6,7 @@ import dma_actions
 import dma_situations
 import encapsulation_actions
 import encapsulation_situations
+import libraries
 import power_actions
 import protection_actions
 import protection_situations
@@ -174,6 +175,15 @@ ERASES = Style(
 
 # Libraries that a boot seals, for pairs of images
 
+CALM_LIBRARIES = Style(
+    weights=(
+        (encapsulation_situations.call_doors, 14), (actions.act_on_ports, 1), (actions.wait, 0.5),
+        (encapsulation_situations.transfer, 0.7), (timer_actions.set_up, 0.5),
+        (actions.enable_port_interrupts, 0.5),
+    ),
+    watchdog_runs=0, interrupts=0.4, longest_chapter=12, loops=0.8, has_vault=True,
+    has_short_start=True, library=libraries.CALM_WORK, counts_in_fram=0.5,
+)
 LIBRARIES = Style(
     weights=(
         (encapsulation_situations.call_doors, 14), (encapsulation_situations.transfer, 1.5),
@@ -183,8 +193,8 @@ LIBRARIES = Style(
         (boot_actions.act_on_boots, 0.3), (protection_situations.act_in_a_situation, 0.7),
         (random_instructions, 0.5),
     ),
-    interrupts=0.5, longest_chapter=14, loops=0.4, has_vault=True, has_library=True,
-    counts_in_fram=0.5,
+    interrupts=0.5, longest_chapter=14, loops=0.4, rescued=0.3, has_vault=True,
+    library=libraries.WORK, counts_in_fram=0.5,
 )
 
 STYLES_WITHOUT_PROTECTION = {
