@@ -6,6 +6,7 @@ from dataclasses import dataclass, field
 
 import boot_sessions
 import debug_situations
+import meetings
 from bench import PINS, Bench, Event, PinLevel, bench_text
 from debug_situations import Session
 from image import Segment, image_bytes, store_of_image
@@ -24,6 +25,7 @@ SHARE_OF_SINGLE_COMMANDS = 0.05
 SHARE_OF_CUTS_ALONE = 0.07
 SHARE_OF_DEAD_ENDS = 0.01
 SHARE_OF_CUTS = 0.08  # where the kind of the case has none of its own
+SHARE_OF_MEETINGS = 0.35  # where the kind of the case has a vault
 SHARE_OF_DEBUGGED = {"debug": 1.0, "encapsulation": 0.5, "encapsulation and interrupts": 0.5,
                      "encapsulation and dma": 0.5}  # of others it is less
 
@@ -60,6 +62,8 @@ def random_case(seed: int, index: int) -> Case:
     case = Case(kind, segments, random_bench(rng))
     if case.bench is not None:
         fill_bench(rng, case, program)
+        if STYLES[kind].has_vault and rng.random() < SHARE_OF_MEETINGS:
+            meetings.meet(rng, case.image_file(), case.bench)
     if rng.random() < SHARE_OF_REFUSED:
         spoil_files(rng, case)
     elif rng.random() < SHARE_OF_SINGLE_COMMANDS:

@@ -24,6 +24,7 @@ PC = assembler.PC
 RETURN = 0x0110  # MOVA @SP+, PC
 PUSH_R11 = 0x140B  # of 20 bits
 BYTES_WITHOUT_DATA = 8
+RESETS_BUT_FETCHES = 0xCCCC  # of MPUSAM: each violation asks for a reset, and a fetch is none
 KEPT_STACK = 0x1C3C  # where the vault keeps SP while it has another
 WORDS_OF_A_DOOR = 120
 # Of a program with structures. Those in the seal can be written from inside alone.
@@ -226,10 +227,20 @@ def ask_for_reset(rng: random.Random, code: Code) -> None:
     )))
 
 
+def ask_for_two_resets(rng: random.Random, code: Code) -> None:
+    """A step that is refused a read, and writes what it read where a password is asked for."""
+    code.put(assembler.store(protection_actions.MPUCTL0, protection_actions.PASSWORD | 1))
+    code.put(assembler.store(protection_actions.MPUSAM, RESETS_BUT_FETCHES))
+    target = rng.choice((actions.WDTCTL, actions.PMMCTL0, protection_actions.FRCTL0,
+                         protection_actions.MPUCTL0))
+    code.put(assembler.copy(rng.choice((0x1900, 0x4400, code.places.bridge)), target))
+
+
 WORK = (
     (read_own_words, 8), (write_own_words, 4), (use_other_stack, 3), (be_interrupted, 1.5),
     (stay, 2), (sleep, 0.5), (call_helper, 3), (call_own_words, 1), (violate_segments, 1),
-    (change_own_area, 0.7), (ask_for_reset, 0.4), (actions.act_on_ports, 2),
+    (change_own_area, 0.7), (ask_for_reset, 0.4), (ask_for_two_resets, 0.8),
+    (actions.act_on_ports, 2),
     (actions.show_register, 2), (protection_situations.read_one, 2),
     (protection_situations.write_one, 2), (protection_situations.move_within_fram, 2),
     (protection_situations.change_one, 1), (dma_actions.set_up, 0.7), (timer_actions.set_up, 0.5),

@@ -434,6 +434,7 @@ WORK = (
     *CALM_WORK, (encapsulation_routines.stay, 1.5), (encapsulation_routines.sleep, 0.3),
     (encapsulation_routines.use_other_stack, 0.2), (encapsulation_routines.violate_segments, 0.7),
     (encapsulation_actions.write_registers, 0.4), (encapsulation_routines.ask_for_reset, 0.15),
+    (encapsulation_routines.ask_for_two_resets, 0.15),
     (dma_actions.set_up, 1.5), (timer_actions.set_up, 1), (boot_actions.act_on_boots, 0.4),
     (protection_situations.write_one, 1),
 )

@@ -82,8 +82,8 @@ def in_items(name: str, right: str, wrong: str) -> Mistake:
     return Mistake(f"release list {name}", "items.py", right, wrong)
 
 
-def in_bus(name: str, right: str, wrong: str) -> Mistake:
-    return Mistake(f"release list {name}", "bus.py", right, wrong)
+def in_bus(name: str, right: str, wrong: str, unseen_because: str = "") -> Mistake:
+    return Mistake(f"release list {name}", "bus.py", right, wrong, unseen_because)
 
 
 def kept(name: str, file: str, right: str, wrong: str, unseen_because: str = "") -> Mistake:
@@ -157,7 +157,8 @@ OF_ACCESSES = (
     in_bus("leaves out refused reads", REFUSED_READ,
            REFUSED_READ + "            self.accesses.pop()\n"),
     in_bus("tells what a byte's write has above it", WRITE,
-           WRITE.replace("value & (WORD if size == \"w\" else LOW_HALF)", "value & WORD")),
+           WRITE.replace("value & (WORD if size == \"w\" else LOW_HALF)", "value & WORD"),
+           "an instruction that writes a byte has cut its value to a byte before"),
     in_bus("ends behind eight accesses of a step", READ,
            "        if len(self.accesses) < 8:\n    " + READ),
     in_bus("tells the upper word of 20 bits as read with the lower", READ,
