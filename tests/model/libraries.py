@@ -35,7 +35,7 @@ SHARE_OF_LEAKS = 0.06
 
 SHARE_OF_USUAL_AREAS = 0.9
 SHARE_OF_WIDE_AREAS = 0.3
-SHARE_OF_AREAS_WITH_VECTORS = 0.05
+SHARE_OF_AREAS_WITH_VECTORS = 0.07
 SHARE_OF_STRUCTURES_INSIDE = 0.5
 
 
@@ -114,10 +114,10 @@ def words_of_structure(rng: random.Random, places: Places) -> list[int]:
         return structures.random_words(rng, places, 0)
     control = ENA | LOCK | (VS if rng.random() < 0.1 else 0)
     first, end = places.vault.first, places.vault.end
-    if rng.random() < SHARE_OF_WIDE_AREAS:  # other code lies in it too
-        first, end = max(first - GRAIN * rng.randrange(3), 0), end + GRAIN * rng.randrange(3)
-    elif rng.random() < SHARE_OF_AREAS_WITH_VECTORS:  # which aren't sealed
+    if rng.random() < SHARE_OF_AREAS_WITH_VECTORS:  # which aren't sealed
         first, end = min(first, 0xFC00), max(end, rng.choice((0x10000, 0x10400, 0x14000)))
+    elif rng.random() < SHARE_OF_WIDE_AREAS:  # other code lies in it too
+        first, end = max(first - GRAIN * rng.randrange(3), 0), end + GRAIN * rng.randrange(3)
     words = [control, end >> 4 & 0xFFFF, first >> 4]
     return [*words, structures.right_check(words)]
 

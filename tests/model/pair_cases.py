@@ -34,6 +34,7 @@ from spoiled_files import spoiled_bench, spoiled_image
 from styles import CALM_LIBRARIES, LIBRARIES, STYLES, STYLES_WITH_CUTS
 from system import Cause
 
+FIRST_OF_SIGNATURES = 0xFF80
 ENDS_OF_FRAM = (0x1800, 0x19FF, 0x4400, 0x13FFF, 0xFF7F, 0xFF80, 0xFFFF, 0x10000)
 SHARE_OF_LIBRARIES = 0.7
 SHARE_OF_CALM_LIBRARIES = 0.6
@@ -292,6 +293,8 @@ def outside(rng: random.Random, sources: Sources) -> PairCase:
     borders = [at for interval in sources.inside() for at in (interval.start - 1, interval.stop)]
     places = [rng.choice((*borders, *ENDS_OF_FRAM, rng.randrange(0x1800, 0x1A00),
                           rng.randrange(0x4400, 0x14000))) for _ in range(rng.choice((1, 1, 2, 6)))]
+    if sources.is_inside(FIRST_OF_SIGNATURES - 1) and rng.random() < 0.6:
+        places = [rng.randrange(FIRST_OF_SIGNATURES, 0x10000)]  # between borders, and not sealed
     pair = sealed_bytes(rng, sources) if rng.random() < 0.6 else PairCase("", sources.case)
     pair.changes += changed_bytes(rng, sources, [at for at in places if is_fram(at)])
     return pair
@@ -384,7 +387,7 @@ Change = Callable[[random.Random, Sources], PairCase]
 INSIDE: dict[str, tuple[float, Change]] = {
     "secrets": (12, secrets), "data": (3, data), "sealed bytes": (4, sealed_bytes),
     "ends of the seal": (1.5, ends_of_the_seal), "the structure": (0.5, the_structure),
-    "single items": (2.5, single_item),
+    "single items": (3.5, single_item),
 }
 OTHERS: dict[str, tuple[float, Change]] = {
     "outside": (4, outside), "other seal": (5, other_seal), "nothing": (1.5, nothing),

@@ -64,6 +64,20 @@ class Runs(unittest.TestCase):
         self.assertEqual(answer_of(words, words | {0x4900: "1234"}, 30, events, cuts), (
             [*lines, "20 BOOT C0 04800 04C00", "30 END", "same"], DONE))
 
+    def test_entry_or_call_by_its_vector(self):
+        """Each access to FRAM waits a tick, and both are refused their stack in the seal.
+
+        The entry takes 6 ticks and 3 for its accesses, and CALL takes 5 and 4. Both leave by the
+        vector, with the same SP and with SR 0.
+        """
+        others = {"x4800": "4303 1292 FFF2", "x4840": "D232 4303", "xFFF2": "4440", "x4440": STAY}
+        start = "40B2 A510 0140 D392 0100 D392 0102 4030 4820"
+        first = sealed(start, x4820="0081 4A00 4030 4840", **others)
+        second = sealed(start, x4820="0081 49FE 4030 4800", **others)
+        ticks = (4 + 3, 4 + 2, 4 + 2, 4 + 2, 2 + 2, 4 + 2, 1 + 1)  # of the instructions before
+        self.assertEqual(answer_of(first, second, 60), (
+            [*BOOT_LINES, f"differ release {10 + sum(ticks)}"], DIFFER))
+
     def test_one_image_twice(self):
         self.assertEqual(answer_of(BLINK, BLINK, 1000), (
             [*BLINK_LINES, "1000 END", "same"], DONE))
