@@ -176,7 +176,8 @@ OF_ITEMS = (
 
 RUNS = (
     in_pair("runs the first image twice", CHIPS, CHIPS.replace("stores[1]", "stores[0]")),
-    in_pair("fills the second SRAM with 0", CHIPS, CHIPS.replace("stores[1], fill", "stores[1], 0")),
+    in_pair("fills the second SRAM with 0", CHIPS,
+            CHIPS.replace("stores[1], fill", "stores[1], 0")),
     in_pair("runs the second image without events", BOTH,
             BOTH.replace("events.get(tick, [])",
                          "events.get(tick, []) if chip is chips[0] else []")),
@@ -190,7 +191,8 @@ RUNS = (
             "        second = first if tick == 0 else chips[1].tick(\n"
             "            events.get(tick - 1, []), schedule.at(tick - 1))\n"),
     in_pair("doesn't run what is equal", FOUND,
-            FOUND + "    if stores[0] == stores[1]:\n        return Pair(Answer(SAME, \"\", DONE))\n"),
+            FOUND + "    if stores[0] == stores[1]:\n"
+            "        return Pair(Answer(SAME, \"\", DONE))\n"),
     in_pair("gives equal images no trace but END", FOUND,
             FOUND + "    if stores[0] == stores[1]:\n"
             "        return Pair(Answer(trace.end(right_bench.end) + SAME, \"\", DONE))\n"),
@@ -246,7 +248,8 @@ ANSWERS = (
             "        stores = one, store_of_file(second)\n"),
     in_pair("compares images before it reads the bench", READ,
             "        stores = store_of_file(first), store_of_file(second)\n"
-            "        found = difference_of_images([Chip(store, 0, Counter()) for store in stores])\n"
+            "        chips = [Chip(store, 0, Counter()) for store in stores]\n"
+            "        found = difference_of_images(chips)\n"
             "        if found is not None:\n"
             "            return Pair(Answer(found, \"\", DIFFER))\n"
             "        right_bench = bench_of_file(bench)\n"

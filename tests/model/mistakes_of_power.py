@@ -519,8 +519,7 @@ TICKS = (
             IN_A_CUT.replace("            self.lose_power()\n",
                              "            self.take_reset()\n            self.lose_power()\n")),
     Mistake("power cut in a tick lets a boot end", "chip.py", END_IN_CUT,
-            "            self.end_boot()\n",
-            "what a boot installs and the line that tells it are lost with the power of the tick"),
+            "            self.end_boot()\n"),
     Mistake("power cut in a tick drops the commands' lines", "chip.py", IN_A_CUT,
             "            del self.lines[:]\n            self.lose_power()\n"),
 )
