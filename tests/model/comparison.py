@@ -161,9 +161,15 @@ def first_difference(ours: Answer, theirs: Answer) -> str:
 
 
 def tick_of_difference(ours: Answer, theirs: Answer) -> int | None:
-    """The tick of the first line that differs, where lines of a tick do."""
+    """The tick of the first line that differs, where lines with a tick do."""
     for our_line, their_line in zip(ours.output.splitlines(), theirs.output.splitlines()):
         if our_line != their_line:
-            ticks = [line.split()[0] for line in (our_line, their_line)]
-            return min((int(tick) for tick in ticks if tick.isdecimal()), default=None)
+            ticks = [tick_of_line(line) for line in (our_line, their_line)]
+            return min((tick for tick in ticks if tick is not None), default=None)
     return None
+
+
+def tick_of_line(line: str) -> int | None:
+    """It begins a line, but for the last one of a pair whose items differ."""
+    words = line.removeprefix("differ release ").split()
+    return int(words[0]) if words[0].isdecimal() else None
