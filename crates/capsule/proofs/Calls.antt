@@ -9,19 +9,20 @@ use Rattle.elf_image.specs.Image.{Segment, image_of}
 use Rattle.stimulus.specs.declared.refusals.BenchRefused.{BenchRefused}
 use Rattle.stimulus.specs.Stimulus.{Stimulus, bench_of_file}
 use Rattle.capsule.specs.declared.statuses.Status.{Status}
-use Rattle.capsule.specs.declared.statuses.Status.TheVariants.{Done, Usage, Absent, ReadFault, TooLong, Image, Bench, WriteFault, NoMemory}
+use Rattle.capsule.specs.declared.statuses.Status.TheVariants.{Done, Differ, Usage, Absent, ReadFault, TooLong, Image, Bench, WriteFault, NoMemory}
 use Rattle.capsule.specs.Releases.{releases_of}
 use Rattle.capsule.specs.Trace.{plain_bench, trace_of}
-use Rattle.capsule.specs.Words.{Request, NoCommand, RunImage, ReleaseImage}
-use Rattle.capsule.specs.Output.{Plan, Read, Refuse, Write, bench_in_file, bench_limit, image_judged, of_file, outcome, plan_of, run_of, run_of_file, with_image, with_bench}
+use Rattle.capsule.specs.Words.{Request, NoCommand, RunImage, ReleaseImage, PairImages}
+use Rattle.capsule.specs.Output.{Plan, Read, Refuse, Do, Task, Tell, Compare, bench_in_file, bench_limit, image_in_file, image_judged, of_file, outcome, pair_of_files, plan_of, run_of, run_of_file, with_image, with_bench}
 use Rattle.bench_io.specs.WholeFiles.{ShelfView, IsRead}
-use Rattle.capsule.specs.Call.{SinkView, sink_view, IsBenchRead, IsNoBench, IsNotRead, IsWritten, IsRefusal, IsFollowed, IsDue, CountsFaults, IsCall}
+use Rattle.capsule.specs.Call.{IsBenchRead, IsNoBench, IsNotRead, IsRefusal, IsFollowed, IsDue, CountsFaults, IsCall}
+use Rattle.capsule.specs.Written.{SinkView, sink_view, IsCompared, IsDone, IsWritten}
 
 -- each refusal of a plan is of this kind
 abbrev RefusesBy : (Status → Type 0) → Plan → Type 0
 RefusesBy Kind (Read name limit next) = (bytes : List ℕ) → RefusesBy Kind (next bytes)
 RefusesBy Kind (Refuse refusal) = Kind refusal
-RefusesBy Kind (Write text) = Unit {0}
+RefusesBy Kind (Do task) = Unit {0}
 
 -- what a file is
 abbrev IsOfFile : Status → Type 0
@@ -39,21 +40,28 @@ module _ (Kind : Status → Type 0) (of_image : (refusal : ImageRefused) → Kin
   with_bench-refuses (Ok bench) next later = later bench
   with_bench-refuses (Err refusal) next later = of_bench refusal
 
+  with_image-refuses : (found : Result (List Segment) ImageRefused) (next : List Segment → Plan) → ((image : List Segment) → RefusesBy Kind (next image)) → RefusesBy Kind (with_image found next)
+  with_image-refuses (Ok image) next later = later image
+  with_image-refuses (Err refusal) next later = of_image refusal
+
   run_of-refuses : (text : Stimulus → List Segment → List ℕ) (image : List Segment) (bench : Option (List ℕ)) → RefusesBy Kind (run_of text image bench)
   run_of-refuses text image None = tt
-  run_of-refuses text image (Some name) = λ bytes. with_bench-refuses (bench_of_file bytes) (λ stimulus. Write (text stimulus image)) (λ bench. tt)
-
-  with_image-refuses : (text : Stimulus → List Segment → List ℕ) (found : Result (List Segment) ImageRefused) (bench : Option (List ℕ)) → RefusesBy Kind (with_image found (λ image. run_of text image bench))
-  with_image-refuses text (Ok image) bench = run_of-refuses text image bench
-  with_image-refuses text (Err refusal) bench = of_image refusal
+  run_of-refuses text image (Some name) = λ bytes. with_bench-refuses (bench_of_file bytes) (λ stimulus. Do (Tell (text stimulus image))) (λ bench. tt)
 
   run_of_file-refuses : (text : Stimulus → List Segment → List ℕ) (image : List ℕ) (bench : Option (List ℕ)) → RefusesBy Kind (run_of_file text image bench)
-  run_of_file-refuses text image bench = λ bytes. with_image-refuses text (image_of bytes) bench
+  run_of_file-refuses text image bench = λ bytes. with_image-refuses (image_of bytes) (λ segments. run_of text segments bench) (λ segments. run_of-refuses text segments bench)
+
+  compared-refuses : (one other : List Segment) (bench : List ℕ) → RefusesBy Kind (bench_in_file bench (λ stimulus. Do (Compare stimulus one other)))
+  compared-refuses one other bench = λ bytes. with_bench-refuses (bench_of_file bytes) (λ stimulus. Do (Compare stimulus one other)) (λ stimulus. tt)
+
+  pair_of_files-refuses : (one other bench : List ℕ) → RefusesBy Kind (pair_of_files one other bench)
+  pair_of_files-refuses one other bench = λ bytes. with_image-refuses (image_of bytes) (λ first. image_in_file other (λ second. bench_in_file bench (λ stimulus. Do (Compare stimulus first second)))) (λ first. λ more. with_image-refuses (image_of more) (λ second. bench_in_file bench (λ stimulus. Do (Compare stimulus first second))) (λ second. compared-refuses first second bench))
 
 plan_of-refuses : (request : Request) → RefusesBy IsJudgement (plan_of request)
 plan_of-refuses NoCommand = tt
 plan_of-refuses (RunImage image bench) = run_of_file-refuses IsJudgement (λ refusal. tt) (λ refusal. tt) trace_of image bench
 plan_of-refuses (ReleaseImage image bench) = run_of_file-refuses IsJudgement (λ refusal. tt) (λ refusal. tt) releases_of image (Some bench)
+plan_of-refuses (PairImages one other bench) = pair_of_files-refuses IsJudgement (λ refusal. tt) (λ refusal. tt) one other bench
 
 -- the counts, where a file wasn't read
 not_read-counts : (before after : ShelfView) (name : List ℕ) (limit : ℕ) (sink now : SinkView) (status : Status) → IsNotRead before after name limit status → now ≡ sink → CountsFaults before.faults after.faults sink.faults now.faults status
@@ -78,6 +86,17 @@ written-counts before after sink now text WriteFault same written = (same, writt
 written-counts before after sink now text NoMemory same written = (same, ap (λ s. s.faults) written)
 written-counts before after sink now text status same written = absurd written
 
+compared-counts : (before after : ℕ) (sink now : SinkView) (bench : Stimulus) (one other : List Segment) (status : Status) → after ≡ before → IsCompared bench one other sink now status → CountsFaults before after sink.faults now.faults status
+compared-counts before after sink now bench one other Done same compared = (same, ap (λ s. s.faults) compared.whole)
+compared-counts before after sink now bench one other Differ same compared = (same, ap (λ s. s.faults) compared.whole)
+compared-counts before after sink now bench one other WriteFault same compared = (same, compared.1)
+compared-counts before after sink now bench one other NoMemory same compared = (same, ap (λ s. s.faults) compared)
+compared-counts before after sink now bench one other status same compared = absurd compared
+
+done-counts : (before after : ℕ) (sink now : SinkView) (task : Task) (status : Status) → after ≡ before → IsDone task sink now status → CountsFaults before after sink.faults now.faults status
+done-counts before after sink now (Tell text) status same written = written-counts before after sink now text status same written
+done-counts before after sink now (Compare bench one other) status same compared = compared-counts before after sink now bench one other status same compared
+
 counts_of : (plan : Plan) (before after : ShelfView) (sink now : SinkView) (status : Status) → RefusesBy IsJudgement plan → IsFollowed plan before after sink now status → CountsFaults before.faults after.faults sink.faults now.faults status
 counts_of (Read name limit next) before after sink now status judging (inl ended) =
     not_read-counts before after name limit sink now status ended.0 ended.1
@@ -85,21 +104,21 @@ counts_of (Read name limit next) before after sink now status judging (inr (byte
     subst (λ n. CountsFaults n after.faults sink.faults now.faults status) read.uncounted (counts_of (next bytes) between after sink now status (judging bytes) rest)
 counts_of (Refuse refusal) before after sink now status judging ended =
     refusal-counts before.faults after.faults sink.faults now.faults refusal status judging (ap (λ shelf. shelf.faults) ended.0) (ap (λ s. s.faults) ended.1) ended.2
-counts_of (Write text) before after sink now status judging ended =
-    written-counts before.faults after.faults sink now text status (ap (λ shelf. shelf.faults) ended.0) ended.1
+counts_of (Do task) before after sink now status judging ended =
+    done-counts before.faults after.faults sink now task status (ap (λ shelf. shelf.faults) ended.0) ended.1
 
 -- a file that is too long is refused
-of_file-too_long : (file : Option (List ℕ)) (limit : ℕ) (next : List ℕ → Result (List ℕ) Status) → IsSomeAnd file (λ bytes. limit < length bytes) → of_file file limit next ≡ Err TooLong
+of_file-too_long : (file : Option (List ℕ)) (limit : ℕ) (next : List ℕ → Result Task Status) → IsSomeAnd file (λ bytes. limit < length bytes) → of_file file limit next ≡ Err TooLong
 of_file-too_long None limit next long = absurd long
 of_file-too_long (Some bytes) limit next long = grind (arith, nat_tests, long)
 
 -- a file within its limit is judged
-of_file-within : (bytes : List ℕ) (limit : ℕ) (next : List ℕ → Result (List ℕ) Status) → length bytes ≤ limit → of_file (Some bytes) limit next ≡ next bytes
+of_file-within : (bytes : List ℕ) (limit : ℕ) (next : List ℕ → Result Task Status) → length bytes ≤ limit → of_file (Some bytes) limit next ≡ next bytes
 of_file-within bytes limit next within = grind (arith, nat_tests, within)
 
 module _ (all : Files) where
   -- the answer, where a file wasn't read
-  not_read-due : (before after : ShelfView) (name : List ℕ) (limit : ℕ) (next : List ℕ → Result (List ℕ) Status) (sink now : SinkView) (status : Status) → before.files ≡ Some all → IsNotRead before after name limit status → now ≡ sink → IsDue (of_file (all name) limit next) sink now status
+  not_read-due : (before after : ShelfView) (name : List ℕ) (limit : ℕ) (next : List ℕ → Result Task Status) (sink now : SinkView) (status : Status) → before.files ≡ Some all → IsNotRead before after name limit status → now ≡ sink → IsDue (of_file (all name) limit next) sink now status
   not_read-due before after name limit next sink now Absent told ended same =
       let none : all name ≡ None = rw told at ended.told in
       subst (λ file. IsDue (of_file file limit next) sink now Absent) (sym none) (refl, same)
@@ -116,9 +135,12 @@ module _ (all : Files) where
   refusal-due refusal status sink now same (inl is) = (is, same)
   refusal-due refusal status sink now same (inr is) = absurd (cc)
 
-  written-due : (text : List ℕ) (status : Status) (sink now : SinkView) → IsWritten sink now text status → IsDue (Ok text) sink now status
-  written-due text ReadFault sink now written = absurd written
-  written-due text status sink now written = written
+  done-due : (task : Task) (status : Status) (sink now : SinkView) → IsDone task sink now status → IsDue (Ok task) sink now status
+  done-due (Tell text) ReadFault sink now done = absurd done
+  done-due (Compare bench one other) ReadFault sink now done = absurd done
+  done-due (Tell text) NoMemory sink now done = done
+  done-due (Compare bench one other) NoMemory sink now done = done
+  done-due task status sink now done = done
 
   due_of : (plan : Plan) (before after : ShelfView) (sink now : SinkView) (status : Status) → before.files ≡ Some all → IsFollowed plan before after sink now status → IsDue (outcome plan all) sink now status
   due_of (Read name limit next) before after sink now status told (inl ended) =
@@ -128,7 +150,7 @@ module _ (all : Files) where
       let judged : of_file (all name) limit (λ file. outcome (next file) all) ≡ outcome (next bytes) all = ap (λ file. of_file file limit (λ b. outcome (next b) all)) there ∙ of_file-within bytes limit (λ file. outcome (next file) all) read.within in
       subst (λ due. IsDue due sink now status) (sym judged) (due_of (next bytes) between after sink now status (read.same ∙ told) rest)
   due_of (Refuse refusal) before after sink now status told ended = refusal-due refusal status sink now ended.1 ended.2
-  due_of (Write text) before after sink now status told ended = written-due text status sink now ended.1
+  due_of (Do task) before after sink now status told ended = done-due task status sink now ended.1
 
 answer_of : (files : Option Files) (plan : Plan) (before after : ShelfView) (sink now : SinkView) (status : Status) → before.files ≡ files → IsFollowed plan before after sink now status → IfSome files (λ all. IsDue (outcome plan all) sink now status)
 answer_of None plan before after sink now status told followed = tt
@@ -149,7 +171,8 @@ followed-usage (Read name limit next) before after sink now judging (inr (bytes,
     followed-usage (next bytes) between after sink now (judging bytes) rest
 followed-usage (Refuse refusal) before after sink now judging (same_shelf, same_sink, inl is) = subst IsOfFile (sym is) judging
 followed-usage (Refuse refusal) before after sink now judging (same_shelf, same_sink, inr is) = absurd (cc)
-followed-usage (Write text) before after sink now judging ended = ended.1
+followed-usage (Do (Tell text)) before after sink now judging ended = ended.1
+followed-usage (Do (Compare bench one other)) before after sink now judging ended = ended.1
 
 -- a run isn't refused for its words
 run-usage : (text : Stimulus → List Segment → List ℕ) (image : List ℕ) (bench : Option (List ℕ)) (before after : ShelfView) (sink now : SinkView) → IsFollowed (run_of_file text image bench) before after sink now Usage → ⊥
@@ -159,11 +182,16 @@ run-usage text image bench before after sink now followed =
 pub run-not_usage : (text : Stimulus → List Segment → List ℕ) (image : List ℕ) (bench : Option (List ℕ)) (before after : ShelfView) (sink now : SinkView) (status : Status) → IsFollowed (run_of_file text image bench) before after sink now status → status ≢ Usage
 run-not_usage text image bench before after sink now status followed = λ is. run-usage text image bench before after sink now (subst (λ s. IsFollowed (run_of_file text image bench) before after sink now s) is followed)
 
+-- nor is a comparison
+pub pair-not_usage : (one other bench : List ℕ) (before after : ShelfView) (sink now : SinkView) (status : Status) → IsFollowed (pair_of_files one other bench) before after sink now status → status ≢ Usage
+pair-not_usage one other bench before after sink now status followed = λ is. followed-usage (pair_of_files one other bench) before after sink now (pair_of_files-refuses IsOfFile (λ refusal. tt) (λ refusal. tt) one other bench) (subst (λ s. IsFollowed (pair_of_files one other bench) before after sink now s) is followed)
+
 -- want of memory may end a plan at once
 pub no_memory : (plan : Plan) (shelf : ShelfView) (sink : SinkView) → IsFollowed plan shelf shelf sink sink NoMemory
 no_memory (Read name limit next) shelf sink = inl ((record { find = inl refl; same = refl }, refl), refl)
 no_memory (Refuse refusal) shelf sink = (refl, refl, inr refl)
-no_memory (Write text) shelf sink = (refl, refl)
+no_memory (Do (Tell text)) shelf sink = (refl, refl)
+no_memory (Do (Compare bench one other)) shelf sink = (refl, refl)
 
 -- the bytes of a file are no bench
 no_bench : (found : Result Stimulus BenchRefused) (status : Status) (next : Stimulus → Plan) (shelf : ShelfView) (sink : SinkView) → IsNoBench found status → IsFollowed (with_bench found next) shelf shelf sink sink status
@@ -190,7 +218,7 @@ module _ (text : Stimulus → List Segment → List ℕ) (bytes : List ℕ) (ben
 -- a run under the bench in a file
 pub under_bench : (text : Stimulus → List Segment → List ℕ) (image : List Segment) (name : List ℕ) (bench : Stimulus) (before after : ShelfView) (sink now : SinkView) (status : Status) → IsBenchRead before after name bench → IsWritten sink now (text bench image) status → IsFollowed (run_of text image (Some name)) before after sink now status
 under_bench text image name bench before after sink now status read written =
-    inr (read.bytes, after, read.read, subst (λ found. IsFollowed (with_bench found (λ stimulus. Write (text stimulus image))) after after sink now status) (sym read.judged) (refl, written))
+    inr (read.bytes, after, read.read, subst (λ found. IsFollowed (with_bench found (λ stimulus. Do (Tell (text stimulus image)))) after after sink now status) (sym read.judged) (refl, written))
 
 -- a run without one
 pub under_plain : (text : Stimulus → List Segment → List ℕ) (image : List Segment) (bench : Stimulus) (shelf : ShelfView) (sink now : SinkView) (status : Status) → bench ≡ plain_bench → IsWritten sink now (text bench image) status → IsFollowed (run_of text image None) shelf shelf sink now status

@@ -1,4 +1,5 @@
 pub mod Texts
-pub mod Rows
 pub mod Benches
 pub mod Calls
+pub mod Comparing
+pub mod Firsts

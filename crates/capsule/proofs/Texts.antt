@@ -1,17 +1,15 @@
 -- The texts of runs, line by line, row by row and tick by tick.
-use Rattle.std.proofs.Common.{◌≡◌, ℕ, zero, suc, ◌+◌, ◌-◌, ◌*◌, ◌<◌, ◌∙◌, refl, sym, ap, append-nil, List, [], ◌++◌, length, get_or, drop, add-one, arith}
+use Rattle.std.proofs.Common.{◌≡◌, ℕ, zero, suc, ◌+◌, ◌-◌, ◌*◌, ◌<◌, ◌∙◌, refl, sym, ap, append-nil, append_assoc, List, [], ◌++◌, length, get_or, drop, add-one, arith}
 use Rattle.std.proofs.Math.Seq.{drop-cons}
 use Rattle.std.specs.List.{flat_map}
-use Rattle.trace_print.specs.Lines.{line_of}
 use Rattle.trace_print.specs.Releases.{open_line_of}
-use Rattle.trace_print.specs.declared.items.TraceItem.TheVariants.{End}
 use Rattle.stimulus.specs.Stimulus.{Stimulus}
 use Rattle.elf_image.specs.Image.{Segment}
 use Rattle.chip_core.specs.State.{State}
 use Rattle.chip_core.specs.FirstState.{first_state}
 use Rattle.chip_core.specs.Run.{chip_after}
 use Rattle.chip_core.specs.Tick.{ticked}
-use Rattle.capsule.specs.Ticks.{text_from}
+use Rattle.capsule.specs.Ticks.{text_of_ticks}
 use Rattle.capsule.specs.declared.runs.Report.{Report}
 use Rattle.capsule.specs.declared.runs.Report.TheVariants.{Trace, Releases}
 use Rattle.capsule.specs.Output.{report_of, report_text}
@@ -37,18 +35,22 @@ rows-row tick memory count n low at h is =
     rw e (ap (λ a. open_line_of tick at (row_of memory at) ++ text_of_rows tick memory (count - (n + 1)) a) next)
 
 module _ (tick_text : Stimulus → ℕ → State → List ℕ) where
-  pub text_from-more : (end n : ℕ) (bench : Stimulus) (first : State) → n < end → text_from tick_text (end - n) n bench first ≡ tick_text bench n (chip_after n bench first) ++ text_from tick_text (end - (n + 1)) (n + 1) bench first
-  text_from-more end n bench first h = let e : end - n ≡ suc (end - (n + 1)) = omega arith in rw (e, add-one) refl
+  pub ticks-more : (end n : ℕ) (bench : Stimulus) (first : State) → n < end → text_of_ticks tick_text (end - n) n bench first ≡ tick_text bench n (chip_after n bench first) ++ text_of_ticks tick_text (end - (n + 1)) (n + 1) bench first
+  ticks-more end n bench first h = let e : end - n ≡ suc (end - (n + 1)) = omega arith in rw (e, add-one) refl
 
-  -- the text of one tick stands before what is left behind it
-  pub tick_parts : (end n : ℕ) (bench : Stimulus) (first chip : State) (text : List ℕ) → n < end → chip ≡ chip_after n bench first → text ≡ tick_text bench n chip → text_from tick_text (end - n) n bench first ≡ text ++ text_from tick_text (end - (n + 1)) (n + 1) bench first
-  tick_parts end n bench first chip text h c t =
-      text_from-more end n bench first h ∙ ap (λ (told : List ℕ). told ++ text_from tick_text (end - (n + 1)) (n + 1) bench first) (sym (t ∙ ap (λ (state : State). tick_text bench n state) c))
+  -- the text of one tick stands before what is left behind it, with a last text
+  pub tick_parts : (last : List ℕ) (end n : ℕ) (bench : Stimulus) (first chip : State) (text : List ℕ) → n < end → chip ≡ chip_after n bench first → text ≡ tick_text bench n chip → text_of_ticks tick_text (end - n) n bench first ++ last ≡ text ++ (text_of_ticks tick_text (end - (n + 1)) (n + 1) bench first ++ last)
+  tick_parts last end n bench first chip text h c t =
+      let rest : List ℕ = text_of_ticks tick_text (end - (n + 1)) (n + 1) bench first in
+      ap (λ told. told ++ last) (ticks-more end n bench first h)
+      ∙ append_assoc (tick_text bench n (chip_after n bench first)) rest last
+      ∙ ap (λ (told : List ℕ). told ++ (rest ++ last)) (sym (t ∙ ap (λ (state : State). tick_text bench n state) c))
 
-  pub end_parts : (end n : ℕ) (bench : Stimulus) (first : State) → n ≡ end → text_from tick_text (end - n) n bench first ≡ line_of end End ++ []
-  end_parts end n bench first h =
+  -- behind all ticks the last text is left
+  pub end_parts : (last : List ℕ) (end n : ℕ) (bench : Stimulus) (first : State) → n ≡ end → text_of_ticks tick_text (end - n) n bench first ++ last ≡ last ++ []
+  end_parts last end n bench first h =
       let e : end - n ≡ zero = omega arith in
-      rw (e, h) (sym (append-nil (line_of end End)))
+      rw e (sym (append-nil last))
 
 -- one tick more of a run
 pub chip_after-more : (tick : ℕ) (bench : Stimulus) (first chip after : State) → chip ≡ chip_after tick bench first → after ≡ ticked bench chip → after ≡ chip_after (tick + 1) bench first

@@ -2,25 +2,17 @@
 --
 -- The files are asked for one after the other. A file that isn't there, that fails, that is too long or
 -- that is refused decides, and none is asked for behind it. The text is written behind the last.
-use Rattle.std.specs.Prelude.{◌≡◌, ℕ, List, Option, Result, Ok, Err, ◌⊎◌, IfSome}
+use Rattle.std.specs.Prelude.{◌≡◌, ℕ, List, Result, Ok, Err, ◌⊎◌, IfSome}
 use Rattle.bench_io.specs.Faults.{Rose}
 use Rattle.bench_io.specs.declared.whole_file.FileRefused.TheVariants as refused
-use Rattle.bench_io.specs.Sinks.{AppendsFront, appended}
 use Rattle.bench_io.specs.WholeFiles.{ShelfView, IsRead, IsRefused}
 use Rattle.stimulus.specs.declared.refusals.BenchRefused.{BenchRefused}
 use Rattle.stimulus.specs.Stimulus.{Stimulus, bench_of_file}
 use Rattle.capsule.specs.declared.statuses.Status.{Status}
-use Rattle.capsule.specs.declared.statuses.Status.TheVariants.{Done, Absent, ReadFault, TooLong, Bench, WriteFault, NoMemory}
-use Rattle.capsule.specs.Output.{Plan, Read, Refuse, Write, bench_limit, output, plan_of}
+use Rattle.capsule.specs.declared.statuses.Status.TheVariants.{Absent, ReadFault, TooLong, Bench, WriteFault, NoMemory}
+use Rattle.capsule.specs.Output.{Plan, Read, Refuse, Do, Task, bench_limit, output, plan_of}
 use Rattle.capsule.specs.Words.{Request}
-
--- what a sink shows: what was written, where it tells that, and how many of its calls failed
-pub record SinkView : Type 0 where
-  pub written : Option (List ℕ)
-  pub faults : ℕ
-
-abbrev pub sink_view : Option (List ℕ) → ℕ → SinkView
-sink_view written faults = record { written = written; faults = faults }
+use Rattle.capsule.specs.Written.{IsDone, SinkView}
 
 -- a file wasn't read to its end, which is the answer of the call
 abbrev pub IsNotRead : ShelfView → ShelfView → List ℕ → ℕ → Status → Type 0
@@ -29,13 +21,6 @@ IsNotRead before after name limit ReadFault = IsRefused before after name limit 
 IsNotRead before after name limit TooLong = IsRefused before after name limit refused.TooLong
 IsNotRead before after name limit NoMemory = IsRefused before after name limit refused.NoMemory
 IsNotRead before after name limit status = ⊥
-
--- what was written of a text
-abbrev pub IsWritten : SinkView → SinkView → List ℕ → Status → Type 0
-IsWritten sink now text Done = now ≡ sink_view (appended sink.written text) sink.faults
-IsWritten sink now text WriteFault = AppendsFront sink.written now.written text × Rose sink.faults now.faults
-IsWritten sink now text NoMemory = now ≡ sink
-IsWritten sink now text status = ⊥
 
 -- a refusal, where memory was found
 abbrev pub IsRefusal : Status → Status → Type 0
@@ -50,13 +35,13 @@ IsFollowed (Read name limit next) before after sink now status =
     × IsFollowed (next bytes) between after sink now status)
 IsFollowed (Refuse refusal) before after sink now status =
     (after ≡ before) × (now ≡ sink) × IsRefusal refusal status
-IsFollowed (Write text) before after sink now status = (after ≡ before) × IsWritten sink now text status
+IsFollowed (Do task) before after sink now status = (after ≡ before) × IsDone task sink now status
 
 -- the answer that is due; a fault or want of memory may come in its place
-abbrev pub IsDue : Result (List ℕ) Status → SinkView → SinkView → Status → Type 0
+abbrev pub IsDue : Result Task Status → SinkView → SinkView → Status → Type 0
 IsDue due sink now ReadFault = now ≡ sink
 IsDue due sink now NoMemory = now ≡ sink
-IsDue (Ok text) sink now status = IsWritten sink now text status
+IsDue (Ok task) sink now status = IsDone task sink now status
 IsDue (Err refusal) sink now status = (status ≡ refusal) × (now ≡ sink)
 
 -- A fault that was counted is the answer. With every other answer none was counted.

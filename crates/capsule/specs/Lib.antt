@@ -1,7 +1,9 @@
 pub mod Ticks
 pub mod Trace
 pub mod Releases
+pub mod Pairs
 pub mod Output
 pub mod Words
 pub mod Exits
+pub mod Written
 pub mod Call

@@ -10,7 +10,7 @@ use Rattle.chip_core.specs.State.{State}
 use Rattle.chip_core.specs.FirstState.{first_state}
 unfoldable use Rattle.chip_core.specs.Items.{items_of}
 use Rattle.chip_core.specs.Tick.{ticked}
-use Rattle.capsule.specs.Ticks.{text_from}
+use Rattle.capsule.specs.Ticks.{text_of_run}
 
 -- how many bytes a line of opened bytes has
 abbrev pub ROW : ℕ
@@ -41,7 +41,7 @@ release_tick bench tick chip = text_of_items tick (ticked bench chip).bus.memory
 
 -- the release list of a run of so many ticks from a first chip on
 abbrev pub releases_text : ℕ → Stimulus → State → List ℕ
-releases_text end bench first = text_from release_tick end 0 bench first
+releases_text end bench first = text_of_run release_tick end bench first
 
 -- the release list of an image's run under a bench
 unfoldable pub releases_of : Stimulus → List Segment → List ℕ

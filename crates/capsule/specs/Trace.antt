@@ -8,7 +8,7 @@ use Rattle.stimulus.specs.Stimulus.{Stimulus}
 use Rattle.chip_core.specs.State.{State}
 use Rattle.chip_core.specs.FirstState.{first_state}
 unfoldable use Rattle.chip_core.specs.Lines.{lines_of}
-use Rattle.capsule.specs.Ticks.{text_from}
+use Rattle.capsule.specs.Ticks.{text_of_run}
 
 -- the bench of a run that names none
 abbrev pub plain_bench : Stimulus
@@ -24,7 +24,7 @@ trace_tick bench tick chip = text_of_lines tick (lines_of bench chip)
 
 -- the text of a run of so many ticks from a first chip on
 abbrev pub run_text : ℕ → Stimulus → State → List ℕ
-run_text end bench first = text_from trace_tick end 0 bench first
+run_text end bench first = text_of_run trace_tick end bench first
 
 -- the text of an image's run under a bench
 unfoldable pub trace_of : Stimulus → List Segment → List ℕ

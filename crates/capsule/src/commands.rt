@@ -1,8 +1,10 @@
 ghost use Rattle.std.specs.Prelude.{◌≡◌, ◌↔◌, map, string_bytes};
 ghost use Rattle.bench_io.specs.WholeFiles.{shelf_view};
-ghost use Rattle.capsule.specs.Call.{IsCall, sink_view};
+ghost use Rattle.capsule.specs.Call.{IsCall};
 ghost use Rattle.capsule.specs.Words.{NoCommand, request_of, request_of_command};
+ghost use Rattle.capsule.specs.Written.{sink_view};
 
+use crate::pairs::pair;
 use crate::runs::{release, run};
 use crate::statuses::Status;
 use bench_io::{Shelf, Sink};
@@ -15,6 +17,8 @@ enum Command<'a> {
     Run(&'a str, Option<&'a str>),
     /// `release IMAGE BENCH`.
     Release(&'a str, &'a str),
+    /// `pair IMAGE IMAGE BENCH`.
+    Pair(&'a str, &'a str, &'a str),
 }
 
 /// Reads the words.
@@ -38,15 +42,22 @@ fn read_command(words: &[String]) -> Option<Command<'_>>
                 None
             }
         }
+        [command, one, other, bench] => {
+            if command.as_str() == "pair" {
+                Some(Command::Pair(one.as_str(), other.as_str(), bench.as_str()))
+            } else {
+                None
+            }
+        }
         _ => None,
     }
 }
 
 /// The program: does what the words ask for, with the files of a shelf, and writes its text to a sink.
 ///
-/// Usage comes for the words. Then the image decides, and then the bench: Absent and ReadFault at its
+/// Usage comes for the words. Then each image decides in turn, and then the bench: Absent and ReadFault at its
 /// find, ReadFault and TooLong at its reads, and Image or Bench for what it is. NoMemory may come before
-/// the first byte is written, and WriteFault after it.
+/// the first byte is written, and WriteFault after it. Differ comes of a comparison alone.
 pub fn capsule<S: Shelf, K: Sink>(
     alloc: Global,
     words: &[String],
@@ -64,6 +75,7 @@ pub fn capsule<S: Shelf, K: Sink>(
     match read_command(words) {
         Some(Command::Run(image, bench)) => run(alloc, image, bench, shelf, out),
         Some(Command::Release(image, bench)) => release(alloc, image, bench, shelf, out),
+        Some(Command::Pair(one, other, bench)) => pair(alloc, one, other, bench, shelf, out),
         None => Status::Usage,
     }
 }

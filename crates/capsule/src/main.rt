@@ -1,4 +1,5 @@
-//! The program: reads an image, runs it on the chip and prints its trace or its release list.
+//! The program: reads an image, runs it on the chip and prints its trace or its release list; or reads two images, and
+//! prints how their runs compare.
 #![tactic(auto)]
 
 use bench_io::{FileShelf, StdSink};
@@ -8,6 +9,8 @@ use std::process::ExitCode;
 use std::{env, io};
 
 mod commands;
+mod comparisons;
+mod pairs;
 mod releases;
 mod runs;
 mod statuses;
@@ -17,6 +20,7 @@ mod trace;
 mod whole_files;
 
 pub use commands::capsule;
+pub use pairs::pair;
 pub use runs::{release, run};
 pub use statuses::Status;
 
@@ -49,7 +53,8 @@ fn call(rt: &HostRuntime) -> Status {
 
 fn main(rt: HostRuntime) -> ExitCode {
     let status = call(&rt);
-    if status != Status::Done {
+    // Done and Differ are told by what was written.
+    if status != Status::Done && status != Status::Differ {
         // Where standard error is gone, the exit number alone tells.
         let _ = eprintln!(rt; "capsule: {status}");
     }

@@ -18,7 +18,7 @@ use trace_print::{Item, TraceItem, open_line, release_line};
 const ROW: u32 = 16;
 
 /// One byte of a row of main FRAM.
-#[tactic(auto, using(crate::proofs::Rows::main_has_bytes))]
+#[tactic(auto, using(release_log::proofs::MainFram::main_has_bytes))]
 fn byte_of_row(chip: &Chip, at: u32, place: u32) -> u8
     requires low { MAIN_FRAM ≤ at }
     requires high { at + 16 ≤ BEHIND_MAIN_FRAM }

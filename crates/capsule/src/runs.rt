@@ -4,9 +4,10 @@ ghost use Rattle.bench_io.specs.Sinks.{AppendsFront, appended};
 ghost use Rattle.std.specs.Option.{option_copied};
 ghost use Rattle.stimulus.specs.Stimulus.{Stimulus, bench_of_file};
 ghost use Rattle.bench_io.specs.WholeFiles.{shelf_view};
-ghost use Rattle.capsule.specs.Call.{IsBenchRead, IsCall, IsFollowed, IsNoBench, IsWritten, sink_view, SinkView};
+ghost use Rattle.capsule.specs.Call.{IsBenchRead, IsCall, IsFollowed, IsNoBench};
 ghost use Rattle.capsule.specs.Output.{bench_in_file, image_judged, Plan, report_of, report_text, run_of_file};
 ghost use Rattle.capsule.specs.Words.{ReleaseImage, RunImage};
+ghost use Rattle.capsule.specs.Written.{IsWritten, sink_view, SinkView};
 
 use crate::releases::write_releases;
 use crate::statuses::Status;
@@ -96,7 +97,7 @@ fn parse_bench(alloc: Global, bytes: &[u8]) -> Result<Bench, Status>
 }
 
 /// Reads the bench in a file. Where it is none, the call ends, whatever would come behind it.
-fn load_bench<S: Shelf>(alloc: Global, shelf: &mut S, name: &str) -> Result<Bench, Status>
+pub fn load_bench<S: Shelf>(alloc: Global, shelf: &mut S, name: &str) -> Result<Bench, Status>
     ensures read { IfOk result (λ bench. IsBenchRead
         (shelf_view (S.files shelf.old) (S.finds shelf.old) (S.faults shelf.old))
         (shelf_view (S.files shelf.new) (S.finds shelf.new) (S.faults shelf.new))

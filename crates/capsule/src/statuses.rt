@@ -8,8 +8,10 @@ use stimulus::BenchRefused;
 /// How a call of the program ended.
 #[derive(Clone, Copy, Debug, PartialEq, Eq)]
 pub enum Status {
-    /// All files were read, and the whole text was written.
+    /// All files were read, and the whole text was written. Two images that were compared gave away the same.
     Done,
+    /// So it is but for this: two images differ, or what they gave away does.
+    Differ,
     /// The words are none that the program knows.
     Usage,
     /// The shelf has no file of a name.
@@ -29,12 +31,13 @@ pub enum Status {
 }
 
 impl Status {
-    /// The number that the process ends with. 1 is kept for a command that compares two runs.
+    /// The number that the process ends with.
     pub fn exit_number(self) -> u8
         ensures { result ≡ exit_of self }
     {
         match self {
             Status::Done => 0,
+            Status::Differ => 1,
             Status::Usage => 2,
             Status::Absent => 3,
             Status::ReadFault => 4,
@@ -51,6 +54,7 @@ impl fmt::Display for Status {
     fn fmt<W: fmt::Write>(&self, f: &mut fmt::Formatter<W>) -> fmt::Result {
         f.write_str(match self {
             Status::Done => "done",
+            Status::Differ => "differ",
             Status::Usage => "usage",
             Status::Absent => "absent",
             Status::ReadFault => "read fault",

@@ -23,7 +23,7 @@ pub fn put_line<K: Sink>(tick: u32, item: &TraceItem, out: &mut K) -> Result<(),
 }
 
 /// Writes the lines of one tick.
-fn put_lines<K: Sink>(tick: u32, items: &[TraceItem], out: &mut K) -> Result<(), PutFailed>
+pub fn put_lines<K: Sink>(tick: u32, items: &[TraceItem], out: &mut K) -> Result<(), PutFailed>
     requires { All IsPrintable items.now }
     ensures whole { OnOk result
         (K.written out.new ≡ appended (K.written out.old) (text_of_lines tick items.now)) }

@@ -118,7 +118,7 @@ ticked-IsHeld image bench chip seals fit spared held =
 
 -- ---- a run
 
-first-get :
+pub first-get :
     (image : List Segment) (fill at : ℕ) → is_fram at ≡ true →
     slice_index (first_memory image fill) at ≡ byte_of image at
 first-get image fill at fram =

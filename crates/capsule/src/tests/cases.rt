@@ -59,11 +59,13 @@ pub fn headed_image(
     Ok(file)
 }
 
+/// What the program is called with: its words, the files of its shelf (an image, another one and a bench), the calls that
 /// are to fail (0 for none), and the sink's room.
 #[derive(Clone, Copy)]
 pub struct Case<'a> {
     pub words: &'a [&'a str],
     pub file: &'a [u8],
+    pub other: &'a [u8],
     pub bench: &'a str,
     pub shelf_fails: u64,
     pub sink_fails: u64,
@@ -85,6 +87,7 @@ impl Case<'_> {
         }
         let mut shelf = MemShelf::build(alloc)?;
         shelf.add("image", self.file)?;
+        shelf.add("other", self.other)?;
         shelf.add("bench", self.bench.as_bytes())?;
         shelf.fail(self.shelf_fails)?;
         let mut out = MemSink::build(alloc, self.room)?;
@@ -100,6 +103,7 @@ pub fn run_of(file: &[u8]) -> Case<'_> {
     Case {
         words: &["run", "image"],
         file,
+        other: &[],
         bench: "",
         shelf_fails: 0,
         sink_fails: 0,

@@ -7,6 +7,7 @@ mod dma;
 mod encapsulation;
 mod images;
 mod interrupts;
+mod pairs;
 mod programs;
 mod protection;
 mod refusals;

@@ -19,6 +19,9 @@ fn refuses_by_cause(rt: HostRuntime) -> Result<(), Fail> {
     usage(&["", "image"]).gives(&rt, Status::Usage, "")?;
     usage(&["release", "image"]).gives(&rt, Status::Usage, "")?;
     usage(&["release", "image", "bench", "bench"]).gives(&rt, Status::Usage, "")?;
+    usage(&["pair", "image", "bench"]).gives(&rt, Status::Usage, "")?;
+    usage(&["run", "image", "image", "bench"]).gives(&rt, Status::Usage, "")?;
+    usage(&["pair", "image", "image", "image", "bench"]).gives(&rt, Status::Usage, "")?;
     Case {
         words: &["run", "none"],
         ..run_of(file)

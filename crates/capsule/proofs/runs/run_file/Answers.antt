@@ -2,8 +2,8 @@
 use Rattle.std.proofs.Common.{refl, inl, inr}
 use Rattle.std.specs.Option.{option_copied}
 use Rattle.bench_io.specs.WholeFiles.{shelf_view}
-use Rattle.capsule.specs.Call.{sink_view}
 use Rattle.capsule.specs.Output.{report_of}
+use Rattle.capsule.specs.Written.{sink_view}
 use Rattle.capsule.proofs.Calls.{run-not_usage}
 use Rattle.capsule.proofs.runs.run_file.Goals as goal
 
