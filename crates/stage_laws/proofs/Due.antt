@@ -7,7 +7,7 @@ use Rattle.trace_print.specs.declared.verdicts.Verdict.{Verdict}
 use Rattle.trace_print.specs.declared.verdicts.Verdict.TheVariants.{Seal, Outside, Release, Same}
 use Rattle.chip_core.specs.State.{State}
 use Rattle.stage_laws.specs.TwoRuns.{AgreeUntil, ImagesAgree, first_of}
-use Rattle.stage_laws.specs.Verdicts.{DifferFirstAt, ImagesDiffer, PartIn, RunsCompare, VerdictIsOne}
+use Rattle.stage_laws.specs.Verdicts.{DifferFirstAt, ImagesDiffer, DifferFirstIn, RunsCompare, VerdictIsOne}
 
 -- images that agree don't differ
 pub agree_not_differ :
@@ -21,11 +21,11 @@ agree_not_differ one other Same images differ = differ
 
 -- the first tick whose items don't agree is none of those whose items do
 pub release_is_later :
-    (bench : Stimulus) (a b : State) (tick n : ℕ) → PartIn bench a b tick → AgreeUntil bench a b n → n ≤ tick
-release_is_later bench a b tick n part until = side (cases_lt tick n)
+    (bench : Stimulus) (a b : State) (tick n : ℕ) → DifferFirstIn bench a b tick → AgreeUntil bench a b n → n ≤ tick
+release_is_later bench a b tick n first until = side (cases_lt tick n)
   where
     side : (tick < n) ⊎ (n ≤ tick) → n ≤ tick
-    side (inl earlier) = absurd (part.part (until tick earlier))
+    side (inl earlier) = absurd (first.differ (until tick earlier))
     side (inr later) = later
 
 -- ---- no two are due
@@ -62,8 +62,8 @@ runs-one bench a b (Release tick) (Release second) compare also =
     let from : second ≤ tick = release_is_later bench a b tick second compare also.until in
     let same : tick ≡ second = omega (arith, to, from) in
     ap Release same
-runs-one bench a b (Release tick) Same compare also = absurd (compare.part (also tick compare.in_run))
-runs-one bench a b Same (Release tick) compare also = absurd (also.part (compare tick also.in_run))
+runs-one bench a b (Release tick) Same compare also = absurd (compare.differ (also tick compare.in_run))
+runs-one bench a b Same (Release tick) compare also = absurd (also.differ (compare tick also.in_run))
 runs-one bench a b Same Same compare also = refl
 runs-one bench a b verdict Seal compare also = absurd also
 runs-one bench a b verdict (Outside at) compare also = absurd also

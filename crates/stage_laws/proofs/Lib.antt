@@ -22,3 +22,4 @@ pub mod Ticking
 pub mod Seals
 pub mod Runs
 pub mod Due
+pub mod Deciding

@@ -12,10 +12,11 @@ use Rattle.chip_core.specs.FirstState.{first_byte, first_memory, first_state}
 use Rattle.chip_core.specs.Lines.{lines_of}
 use Rattle.chip_core.specs.Phase.{is_private}
 use Rattle.chip_core.specs.State.{State}
+use Rattle.release_log.specs.Erasing.{chip_at}
 use Rattle.release_log.proofs.Begins.{run_keeps_facts}
 use Rattle.stage_laws.specs.OneTick.{AgreeBehind}
 use Rattle.stage_laws.specs.Seen.{Seen, seen}
-use Rattle.stage_laws.specs.TwoRuns.{ImagesAgree, RunsAgree, RunsAlike, chip_before}
+use Rattle.stage_laws.specs.TwoRuns.{ImagesAgree, RunsAgree, RunsAlike}
 use Rattle.stage_laws.proofs.Cutting.{hidden_from-same}
 use Rattle.stage_laws.proofs.Seals.{seals_go_by_addresses}
 use Rattle.stage_laws.proofs.Ticking.{one_tick_agrees}
@@ -64,8 +65,8 @@ runs_agree one other bench zero images items = record {
   lines = λ k before. absurd (omega arith);
 }
 runs_agree one other bench (suc n) images items =
-    let a : State = chip_before bench one n in
-    let b : State = chip_before bench other n in
+    let a : State = chip_at one bench n in
+    let b : State = chip_at other bench n in
     let until : RunsAlike bench one other n =
     runs_agree one other bench n images (λ k before. items k (omega arith)) in
     let next : AgreeBehind bench a b =
@@ -77,6 +78,6 @@ runs_agree one other bench (suc n) images items =
         | inl earlier ↦ until.lines k earlier
         | inr last ↦
             let same : n ≡ k = omega arith in
-            subst (λ k. lines_of bench (chip_before bench one k) ≡ lines_of bench (chip_before bench other k)) same next.lines
+            subst (λ k. lines_of bench (chip_at one bench k) ≡ lines_of bench (chip_at other bench k)) same next.lines
       ];
     }

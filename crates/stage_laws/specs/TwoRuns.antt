@@ -9,6 +9,7 @@ use Rattle.chip_core.specs.FirstState.{first_state}
 use Rattle.chip_core.specs.Lines.{lines_of}
 use Rattle.chip_core.specs.Run.{chip_after}
 use Rattle.chip_core.specs.State.{State}
+use Rattle.release_log.specs.Erasing.{chip_at}
 use Rattle.stage_laws.specs.OneTick.{ItemsAgree}
 use Rattle.stage_laws.specs.Seen.{seen}
 
@@ -17,22 +18,18 @@ abbrev pub SealSame : List Segment → List Segment → Type 0
 SealSame one other = (at : ℕ) → is_in (image_seal one) at ≡ is_in (image_seal other) at
 
 -- an address of FRAM that the first boot of an image doesn't seal
-pub record IsOutside (image : List Segment) (at : ℕ) : Type 0 where
+pub record IsUnsealed (image : List Segment) (at : ℕ) : Type 0 where
   pub fram : is_fram at ≡ true
   pub unsealed : is_in (image_seal image) at ≡ false
 
 -- two images agree: their first boots seal the same addresses, and FRAM is equal at all others
 pub record ImagesAgree (one other : List Segment) : Type 0 where
   pub seal : SealSame one other
-  pub bytes : (at : ℕ) → IsOutside one at → byte_of one at ≡ byte_of other at
+  pub bytes : (at : ℕ) → IsUnsealed one at → byte_of one at ≡ byte_of other at
 
 -- the chip of an image before the first tick of a run
 abbrev pub first_of : Stimulus → List Segment → State
 first_of bench image = first_state image bench.fill
-
--- and before the tick of this number
-abbrev pub chip_before : Stimulus → List Segment → ℕ → State
-chip_before bench image n = chip_after n bench (first_of bench image)
 
 -- the items of the runs of two chips agree in each tick before one
 abbrev pub AgreeUntil : Stimulus → State → State → ℕ → Type 0
@@ -41,10 +38,10 @@ AgreeUntil bench a b n =
 
 -- before a tick the same is public in two runs, and all lines of the ticks before it are equal
 pub record RunsAlike (bench : Stimulus) (one other : List Segment) (n : ℕ) : Type 0 where
-  pub public : seen (chip_before bench one n) ≡ seen (chip_before bench other n)
+  pub public : seen (chip_at one bench n) ≡ seen (chip_at other bench n)
   pub lines :
       (k : ℕ) → k < n →
-      lines_of bench (chip_before bench one k) ≡ lines_of bench (chip_before bench other k)
+      lines_of bench (chip_at one bench k) ≡ lines_of bench (chip_at other bench k)
 
 -- whatever a bench brings, and whenever its cuts take power away
 abbrev pub RunsAgree : Type 0

@@ -7,13 +7,13 @@ use Rattle.trace_print.specs.declared.verdicts.Verdict.TheVariants.{Seal, Outsid
 use Rattle.chip_core.specs.Run.{chip_after}
 use Rattle.chip_core.specs.State.{State}
 use Rattle.stage_laws.specs.OneTick.{ItemsAgree}
-use Rattle.stage_laws.specs.TwoRuns.{AgreeUntil, ImagesAgree, IsOutside, SealSame, first_of}
+use Rattle.stage_laws.specs.TwoRuns.{AgreeUntil, ImagesAgree, IsUnsealed, SealSame, first_of}
 
 -- The images.
 
 -- they differ at an address outside the seal
 pub record DifferAt (one other : List Segment) (at : ℕ) : Type 0 where
-  pub outside : IsOutside one at
+  pub outside : IsUnsealed one at
   pub bytes : byte_of one at ≢ byte_of other at
 
 -- and at none below it
@@ -30,14 +30,14 @@ ImagesDiffer one other verdict = ⊥
 -- The runs of two chips.
 
 -- this tick is the first whose items don't agree
-pub record PartIn (bench : Stimulus) (a b : State) (tick : ℕ) : Type 0 where
+pub record DifferFirstIn (bench : Stimulus) (a b : State) (tick : ℕ) : Type 0 where
   pub in_run : tick < bench.end
   pub until : AgreeUntil bench a b tick
-  pub part : ItemsAgree bench (chip_after tick bench a) (chip_after tick bench b) → ⊥
+  pub differ : ItemsAgree bench (chip_after tick bench a) (chip_after tick bench b) → ⊥
 
--- the items part in a tick, or agree in all
+-- the items differ in a tick first, or agree in all
 abbrev pub RunsCompare : Stimulus → State → State → Verdict → Type 0
-RunsCompare bench a b (Release tick) = PartIn bench a b tick
+RunsCompare bench a b (Release tick) = DifferFirstIn bench a b tick
 RunsCompare bench a b Same = AgreeUntil bench a b bench.end
 RunsCompare bench a b verdict = ⊥
 
@@ -59,3 +59,9 @@ abbrev pub VerdictIsOne : Type 0
 VerdictIsOne =
     (bench : Stimulus) (one other : List Segment) (verdict second : Verdict) →
     IsVerdict bench one other verdict → IsVerdict bench one other second → verdict ≡ second
+
+-- and one is
+abbrev pub VerdictIsDue : Type 0
+VerdictIsDue =
+    (bench : Stimulus) (one other : List Segment) →
+    (verdict : Verdict) × IsVerdict bench one other verdict

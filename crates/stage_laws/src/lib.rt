@@ -23,4 +23,4 @@ pub use public_laws::{
 pub use ready::{ticks_have_budgets, ticks_make_ready};
 pub use resets::{private_ticks_end_alike, public_parts_are_left, public_ticks_end_alike};
 pub use two_runs::runs_agree;
-pub use verdicts::verdict_is_one;
+pub use verdicts::{verdict_is_due, verdict_is_one};
