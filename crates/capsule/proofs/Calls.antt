@@ -13,7 +13,7 @@ use Rattle.capsule.specs.declared.statuses.Status.TheVariants.{Done, Differ, Usa
 use Rattle.capsule.specs.Releases.{releases_of}
 use Rattle.capsule.specs.Trace.{plain_bench, trace_of}
 use Rattle.capsule.specs.Words.{Request, NoCommand, RunImage, ReleaseImage, PairImages}
-use Rattle.capsule.specs.Output.{Plan, Read, Refuse, Do, Task, Tell, Compare, bench_in_file, bench_limit, image_in_file, image_judged, of_file, outcome, pair_of_files, plan_of, run_of, run_of_file, with_image, with_bench}
+use Rattle.capsule.specs.Output.{Plan, Read, Refuse, Do, Task, Write, Compare, bench_in_file, bench_limit, image_in_file, image_judged, of_file, outcome, pair_of_files, plan_of, run_of, run_of_file, with_image, with_bench}
 use Rattle.bench_io.specs.WholeFiles.{ShelfView, IsRead}
 use Rattle.capsule.specs.Call.{IsBenchRead, IsNoBench, IsNotRead, IsRefusal, IsFollowed, IsDue, CountsFaults, IsCall}
 use Rattle.capsule.specs.Written.{SinkView, sink_view, IsCompared, IsDone, IsWritten}
@@ -46,7 +46,7 @@ module _ (Kind : Status → Type 0) (of_image : (refusal : ImageRefused) → Kin
 
   run_of-refuses : (text : Stimulus → List Segment → List ℕ) (image : List Segment) (bench : Option (List ℕ)) → RefusesBy Kind (run_of text image bench)
   run_of-refuses text image None = tt
-  run_of-refuses text image (Some name) = λ bytes. with_bench-refuses (bench_of_file bytes) (λ stimulus. Do (Tell (text stimulus image))) (λ bench. tt)
+  run_of-refuses text image (Some name) = λ bytes. with_bench-refuses (bench_of_file bytes) (λ stimulus. Do (Write (text stimulus image))) (λ bench. tt)
 
   run_of_file-refuses : (text : Stimulus → List Segment → List ℕ) (image : List ℕ) (bench : Option (List ℕ)) → RefusesBy Kind (run_of_file text image bench)
   run_of_file-refuses text image bench = λ bytes. with_image-refuses (image_of bytes) (λ segments. run_of text segments bench) (λ segments. run_of-refuses text segments bench)
@@ -94,7 +94,7 @@ compared-counts before after sink now bench one other NoMemory same compared = (
 compared-counts before after sink now bench one other status same compared = absurd compared
 
 done-counts : (before after : ℕ) (sink now : SinkView) (task : Task) (status : Status) → after ≡ before → IsDone task sink now status → CountsFaults before after sink.faults now.faults status
-done-counts before after sink now (Tell text) status same written = written-counts before after sink now text status same written
+done-counts before after sink now (Write text) status same written = written-counts before after sink now text status same written
 done-counts before after sink now (Compare bench one other) status same compared = compared-counts before after sink now bench one other status same compared
 
 counts_of : (plan : Plan) (before after : ShelfView) (sink now : SinkView) (status : Status) → RefusesBy IsJudgement plan → IsFollowed plan before after sink now status → CountsFaults before.faults after.faults sink.faults now.faults status
@@ -136,9 +136,9 @@ module _ (all : Files) where
   refusal-due refusal status sink now same (inr is) = absurd (cc)
 
   done-due : (task : Task) (status : Status) (sink now : SinkView) → IsDone task sink now status → IsDue (Ok task) sink now status
-  done-due (Tell text) ReadFault sink now done = absurd done
+  done-due (Write text) ReadFault sink now done = absurd done
   done-due (Compare bench one other) ReadFault sink now done = absurd done
-  done-due (Tell text) NoMemory sink now done = done
+  done-due (Write text) NoMemory sink now done = done
   done-due (Compare bench one other) NoMemory sink now done = done
   done-due task status sink now done = done
 
@@ -171,7 +171,7 @@ followed-usage (Read name limit next) before after sink now judging (inr (bytes,
     followed-usage (next bytes) between after sink now (judging bytes) rest
 followed-usage (Refuse refusal) before after sink now judging (same_shelf, same_sink, inl is) = subst IsOfFile (sym is) judging
 followed-usage (Refuse refusal) before after sink now judging (same_shelf, same_sink, inr is) = absurd (cc)
-followed-usage (Do (Tell text)) before after sink now judging ended = ended.1
+followed-usage (Do (Write text)) before after sink now judging ended = ended.1
 followed-usage (Do (Compare bench one other)) before after sink now judging ended = ended.1
 
 -- a run isn't refused for its words
@@ -190,7 +190,7 @@ pair-not_usage one other bench before after sink now status followed = λ is. fo
 pub no_memory : (plan : Plan) (shelf : ShelfView) (sink : SinkView) → IsFollowed plan shelf shelf sink sink NoMemory
 no_memory (Read name limit next) shelf sink = inl ((record { find = inl refl; same = refl }, refl), refl)
 no_memory (Refuse refusal) shelf sink = (refl, refl, inr refl)
-no_memory (Do (Tell text)) shelf sink = (refl, refl)
+no_memory (Do (Write text)) shelf sink = (refl, refl)
 no_memory (Do (Compare bench one other)) shelf sink = (refl, refl)
 
 -- the bytes of a file are no bench
@@ -218,7 +218,7 @@ module _ (text : Stimulus → List Segment → List ℕ) (bytes : List ℕ) (ben
 -- a run under the bench in a file
 pub under_bench : (text : Stimulus → List Segment → List ℕ) (image : List Segment) (name : List ℕ) (bench : Stimulus) (before after : ShelfView) (sink now : SinkView) (status : Status) → IsBenchRead before after name bench → IsWritten sink now (text bench image) status → IsFollowed (run_of text image (Some name)) before after sink now status
 under_bench text image name bench before after sink now status read written =
-    inr (read.bytes, after, read.read, subst (λ found. IsFollowed (with_bench found (λ stimulus. Do (Tell (text stimulus image)))) after after sink now status) (sym read.judged) (refl, written))
+    inr (read.bytes, after, read.read, subst (λ found. IsFollowed (with_bench found (λ stimulus. Do (Write (text stimulus image)))) after after sink now status) (sym read.judged) (refl, written))
 
 -- a run without one
 pub under_plain : (text : Stimulus → List Segment → List ℕ) (image : List Segment) (bench : Stimulus) (shelf : ShelfView) (sink now : SinkView) (status : Status) → bench ≡ plain_bench → IsWritten sink now (text bench image) status → IsFollowed (run_of text image None) shelf shelf sink now status

@@ -27,7 +27,7 @@ use Rattle.capsule.specs.declared.statuses.Status.TheVariants.{Done, Differ}
 use Rattle.capsule.specs.Pairs.{lines_before, pair_text}
 use Rattle.capsule.specs.Ticks.{text_of_ticks}
 use Rattle.capsule.specs.Trace.{text_of_lines, trace_tick}
-use Rattle.capsule.specs.Written.{IsCompared, IsTold, SinkView, ending_of, sink_view}
+use Rattle.capsule.specs.Written.{IsCompared, IsComparison, SinkView, ending_of, sink_view}
 use Rattle.capsule.proofs.Calls.{whole_written}
 
 -- ---- the text of ticks
@@ -134,7 +134,7 @@ front_of_last : (bench : Stimulus) (a b : State) (before now after : Option (Lis
 front_of_last bench a b before now after until written front Seal compare = absurd compare
 front_of_last bench a b before now after until written front (Outside at) compare = absurd compare
 front_of_last bench a b before now after until written front (Release tick) compare =
-    absurd (compare.part (until tick compare.in_run))
+    absurd (compare.differ (until tick compare.in_run))
 front_of_last bench a b before now after until written front Same compare =
     let line : List ℕ = line_of bench.end End in
     let writing : IsWriting before now (lines_before Same bench a) line = record {
@@ -227,8 +227,8 @@ runs-tellable bench a b Same compare = tt
 
 -- ---- the status of a verdict
 
-told_of : (bench : Stimulus) (one other : List Segment) (verdict : Verdict) (before after : Option (List ℕ)) (faults counted : ℕ) (status : Status) → status ≡ ending_of verdict → IsVerdict bench one other verdict → after ≡ appended before (pair_text verdict bench one) → counted ≡ faults → IsTold bench one other (sink_view before faults) (sink_view after counted) status
-told_of bench one other verdict before after faults counted status ending due whole uncounted = record {
+comparison_of : (bench : Stimulus) (one other : List Segment) (verdict : Verdict) (before after : Option (List ℕ)) (faults counted : ℕ) (status : Status) → status ≡ ending_of verdict → IsVerdict bench one other verdict → after ≡ appended before (pair_text verdict bench one) → counted ≡ faults → IsComparison bench one other (sink_view before faults) (sink_view after counted) status
+comparison_of bench one other verdict before after faults counted status ending due whole uncounted = record {
   verdict = verdict;
   due = due;
   of_both = of_both bench one other verdict due;
@@ -237,7 +237,7 @@ told_of bench one other verdict before after faults counted status ending due wh
 }
 
 -- a verdict ends with Done or with Differ
-ends_so : (bench : Stimulus) (one other : List Segment) (sink now : SinkView) (status : Status) (verdict : Verdict) → status ≡ ending_of verdict → IsTold bench one other sink now status → IsCompared bench one other sink now status
+ends_so : (bench : Stimulus) (one other : List Segment) (sink now : SinkView) (status : Status) (verdict : Verdict) → status ≡ ending_of verdict → IsComparison bench one other sink now status → IsCompared bench one other sink now status
 ends_so bench one other sink now Done verdict ending told = told
 ends_so bench one other sink now Differ verdict ending told = told
 ends_so bench one other sink now status Same ending told = absurd (cc)
@@ -247,7 +247,7 @@ ends_so bench one other sink now status (Release tick) ending told = absurd (cc)
 
 pub compared_of : (bench : Stimulus) (one other : List Segment) (verdict : Verdict) (before after : Option (List ℕ)) (faults counted : ℕ) (status : Status) → status ≡ ending_of verdict → IsVerdict bench one other verdict → after ≡ appended before (pair_text verdict bench one) → counted ≡ faults → IsCompared bench one other (sink_view before faults) (sink_view after counted) status
 compared_of bench one other verdict before after faults counted status ending due whole uncounted =
-    ends_so bench one other (sink_view before faults) (sink_view after counted) status verdict ending (told_of bench one other verdict before after faults counted status ending due whole uncounted)
+    ends_so bench one other (sink_view before faults) (sink_view after counted) status verdict ending (comparison_of bench one other verdict before after faults counted status ending due whole uncounted)
 
 -- ---- runs from the first chips of images
 

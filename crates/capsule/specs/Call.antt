@@ -1,7 +1,7 @@
 -- A call of the program: what it asks of the shelf, what it writes to the sink, and its status.
 --
 -- The files are asked for one after the other. A file that isn't there, that fails, that is too long or
--- that is refused decides, and none is asked for behind it. The text is written behind the last.
+-- that is refused decides, and no further one is found behind it. The text is written behind the last.
 use Rattle.std.specs.Prelude.{◌≡◌, ℕ, List, Result, Ok, Err, ◌⊎◌, IfSome}
 use Rattle.bench_io.specs.Faults.{Rose}
 use Rattle.bench_io.specs.declared.whole_file.FileRefused.TheVariants as refused

@@ -2,7 +2,7 @@
 --
 -- 0  each file was read to its end and is what it ought to be, and the whole text was written; two images that were
 --    compared gave away the same
--- 1  so it is but for this: the images differ, or what they gave away does
+-- 1  as 0, but the images differ, or what they gave away does
 -- 2  the words are no command, and nothing was asked for
 -- 3  there is no file of the name that was asked for
 -- 4  a find or a read failed
@@ -12,7 +12,7 @@
 -- 8  a put failed, and a front of the text was written
 -- 9  there was no memory, and no fault was counted
 --
--- Except for 0, 1 and 8 nothing was written. Behind the file that decides none was asked for.
+-- Except for 0, 1 and 8 nothing was written. Behind the file that decides no further one was found.
 use Rattle.std.specs.Prelude.{ℕ}
 use Rattle.capsule.specs.declared.statuses.Status.{Status}
 use Rattle.capsule.specs.declared.statuses.Status.TheVariants.{Done, Differ, Usage, Absent, ReadFault, TooLong, Image, Bench, WriteFault, NoMemory}

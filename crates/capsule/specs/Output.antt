@@ -17,7 +17,7 @@ use Rattle.capsule.specs.Words.{Request, NoCommand, RunImage, ReleaseImage, Pair
 -- what is left to do once each file is judged
 pub data Task : Type 0 where
   -- to write a text
-  Tell : List ℕ → Task
+  Write : List ℕ → Task
   -- to compare the runs of two images under one bench
   Compare : Stimulus → List Segment → List Segment → Task
 
@@ -67,7 +67,7 @@ report_of Releases = releases_of
 
 -- a text of an image's run
 abbrev pub run_of : (Stimulus → List Segment → List ℕ) → List Segment → Option (List ℕ) → Plan
-run_of text image bench = bench_of_run bench (λ stimulus. Do (Tell (text stimulus image)))
+run_of text image bench = bench_of_run bench (λ stimulus. Do (Write (text stimulus image)))
 
 -- what the bytes of an image lead to in a run
 abbrev pub image_judged : (Stimulus → List Segment → List ℕ) → List ℕ → Option (List ℕ) → Plan
@@ -90,7 +90,7 @@ abbrev pub pair_of_files : List ℕ → List ℕ → List ℕ → Plan
 pair_of_files one other bench =
     image_in_file one (λ first. image_in_file other (λ second. compared_under bench first second))
 
--- The images first, and then the bench. Later requests add their cases here.
+-- The images first, and then the bench.
 abbrev pub plan_of : Request → Plan
 plan_of NoCommand = Refuse Usage
 plan_of (RunImage image bench) = run_of_file trace_of image bench

@@ -11,7 +11,7 @@ use Rattle.capsule.specs.Ticks.{text_of_ticks}
 use Rattle.capsule.specs.Trace.{run_text, trace_tick}
 
 -- the lines that stand before a verdict, by the run of a first chip: those of the ticks before the one in which the items
--- part, or the whole trace with END; where the images differ there are none
+-- differ, or the whole trace with END; where the images differ there are none
 abbrev pub lines_before : Verdict → Stimulus → State → List ℕ
 lines_before (Release tick) bench first = text_of_ticks trace_tick tick 0 bench first
 lines_before Same bench first = run_text bench.end bench first

@@ -10,7 +10,7 @@ use Rattle.stage_laws.specs.TwoRuns.{first_of}
 use Rattle.stage_laws.specs.Verdicts.{IsVerdict}
 use Rattle.capsule.specs.declared.statuses.Status.{Status}
 use Rattle.capsule.specs.declared.statuses.Status.TheVariants.{Done, Differ, WriteFault, NoMemory}
-use Rattle.capsule.specs.Output.{Task, Tell, Compare}
+use Rattle.capsule.specs.Output.{Task, Write, Compare}
 use Rattle.capsule.specs.Pairs.{lines_before, pair_text}
 
 -- what a sink shows: what was written, where it tells that, and how many of its calls failed
@@ -39,7 +39,7 @@ ending_of verdict = Differ
 
 -- Two images were compared: a verdict is due, the lines before it are those of either run, these lines and the verdict
 -- were written, and the status says the same.
-pub record IsTold (bench : Stimulus) (one other : List Segment) (sink now : SinkView) (status : Status) : Type 0 where
+pub record IsComparison (bench : Stimulus) (one other : List Segment) (sink now : SinkView) (status : Status) : Type 0 where
   pub verdict : Verdict
   pub due : IsVerdict bench one other verdict
   pub of_both :
@@ -55,8 +55,8 @@ IsFrontOfPair bench one other sink now =
 
 -- what was written of a comparison
 abbrev pub IsCompared : Stimulus → List Segment → List Segment → SinkView → SinkView → Status → Type 0
-IsCompared bench one other sink now Done = IsTold bench one other sink now Done
-IsCompared bench one other sink now Differ = IsTold bench one other sink now Differ
+IsCompared bench one other sink now Done = IsComparison bench one other sink now Done
+IsCompared bench one other sink now Differ = IsComparison bench one other sink now Differ
 IsCompared bench one other sink now WriteFault =
     IsFrontOfPair bench one other sink now × Rose sink.faults now.faults
 IsCompared bench one other sink now NoMemory = now ≡ sink
@@ -64,5 +64,5 @@ IsCompared bench one other sink now status = ⊥
 
 -- what was written of a task
 abbrev pub IsDone : Task → SinkView → SinkView → Status → Type 0
-IsDone (Tell text) sink now status = IsWritten sink now text status
+IsDone (Write text) sink now status = IsWritten sink now text status
 IsDone (Compare bench one other) sink now status = IsCompared bench one other sink now status

@@ -57,7 +57,7 @@ fn read_command(words: &[String]) -> Option<Command<'_>>
 ///
 /// Usage comes for the words. Then each image decides in turn, and then the bench: Absent and ReadFault at its
 /// find, ReadFault and TooLong at its reads, and Image or Bench for what it is. NoMemory may come before
-/// the first byte is written, and WriteFault after it. Differ comes of a comparison alone.
+/// the first byte is written, and WriteFault once writing has begun. Differ comes of a comparison alone.
 pub fn capsule<S: Shelf, K: Sink>(
     alloc: Global,
     words: &[String],

@@ -10,7 +10,7 @@ use stimulus::BenchRefused;
 pub enum Status {
     /// All files were read, and the whole text was written. Two images that were compared gave away the same.
     Done,
-    /// So it is but for this: two images differ, or what they gave away does.
+    /// As Done, but the images that were compared differ, or what they gave away does.
     Differ,
     /// The words are none that the program knows.
     Usage,
