@@ -37,6 +37,7 @@ SHARE_OF_USUAL_AREAS = 0.9
 SHARE_OF_WIDE_AREAS = 0.3
 SHARE_OF_AREAS_WITH_VECTORS = 0.07
 SHARE_OF_STRUCTURES_INSIDE = 0.5
+SHARE_OF_SECRET_FIRST_WORDS = 0.4
 
 
 class Twin:
@@ -88,11 +89,27 @@ def write_library(rng: random.Random, program: Program, work: Work) -> None:
         word = rng.randrange(0x10000)
         data.put([word], [rng.randrange(0x10000) if rng.random() < 0.6 else word])
     twin = Twin(program.code(vault.first, vault.data - vault.first), program.other_words)
+    if rng.random() < SHARE_OF_SECRET_FIRST_WORDS:
+        write_way_over_the_border(rng, program, twin)
     encapsulation_routines.write_first_words(rng, twin.code, vault)
     for _ in range(rng.randrange(3, 8)):
         if twin.code.rest < WORDS_OF_A_DOOR:
             break
         write_door(rng, twin, work)
+
+
+def write_way_over_the_border(rng: random.Random, program: Program, twin: Twin) -> None:
+    """An instruction outside whose last word would be the first of the library, a secret."""
+    vault = program.places.vault
+    twin.put([rng.randrange(0x10000)], [rng.randrange(0x10000)])
+    words = rng.choice((
+        [0x1230], [0x4030], [0x4030 | rng.choice(SECRET_REGISTERS)],  # PUSH, MOV to PC or elsewhere
+        two("MOV", register(4), absolute(0))[:1], [0x40B2, rng.randrange(0x10000)],
+    ))
+    way = vault.first - 2 * len(words)
+    vault.doors.append(way)
+    for index, word in enumerate(words):
+        program.single_words[way + 2 * index] = word
 
 
 def write_structures(rng: random.Random, program: Program) -> None:

@@ -18,17 +18,19 @@ import structures
 from bench import Bench, Event
 from boot import borders_of_image
 from cases import Case
-from debug import Go, Halt, ReadRegister, ReadWord, Reset, WriteWord
+from debug import Dump, Go, Halt, ReadRegister, ReadWord, Reset, SetRegister, WriteWord
 from debug_situations import Session, Targets, Timed
 from image import Segment, image_bytes, store_of_image
 from latch import Latch
 from layout import Program, words_as_bytes
+from libraries import SECRET_REGISTERS
 from memory import is_fram
 from pair import pair as compared
 from player import Player, random_temper
 from power import Cut
 from programs import random_program
 from protection_actions import GRAIN
+from run import LONGEST_IMAGE
 from seals import BYTES_OF_A_ROW, Seal
 from spoiled_files import spoiled_bench, spoiled_image
 from styles import CALM_LIBRARIES, LIBRARIES, STYLES, STYLES_WITH_CUTS
@@ -208,6 +210,22 @@ def wait_for_a_halt(rng: random.Random, targets: Targets) -> list[Timed]:
     return [(0, Halt()), *looks, (tick + 1, Go())]
 
 
+def ask_at_work(rng: random.Random, targets: Targets) -> list[Timed]:
+    """Registers of a processor that isn't halted, for some time."""
+    pace = rng.choice((1, 2, 5))
+    return [(pace * turn, ReadRegister(rng.choice((0, 1, 2, *SECRET_REGISTERS))))
+            for turn in range(rng.randrange(20, 80))]
+
+
+def look_in_from_a_halt(rng: random.Random, targets: Targets) -> list[Timed]:
+    """PC is led into the library while the processor is halted, and its data is read."""
+    tick = rng.choice((10, 100, 300))
+    looks = [ReadWord(targets.vault.random_free_address(rng)) for _ in range(3)]
+    return [(0, Halt()), (tick, SetRegister(0, rng.choice(targets.vault.doors))),
+            *((tick, look) for look in looks), (tick, Dump(targets.vault.data, 32)),
+            (tick + 1, SetRegister(0, targets.places.start)), (tick + 1, Go())]
+
+
 def fill_by_dma(rng: random.Random, targets: Targets) -> list[Timed]:
     """A block out of the library or into it, a byte for each pin, by a channel of the debugger."""
     inside = targets.vault.random_free_address(rng)
@@ -222,10 +240,12 @@ def fill_by_dma(rng: random.Random, targets: Targets) -> list[Timed]:
 
 CALM_SESSIONS: tuple[tuple[Session, float], ...] = (
     (move_a_border, 0.5), (fill_by_dma, 5), (debug_situations.glance, 4), (wait_for_a_halt, 2),
+    (look_in_from_a_halt, 1), (ask_at_work, 1.5),
     (boot_sessions.look_at_what_boots, 1), (debug_situations.read_timers, 1),
 )
 SESSIONS: tuple[tuple[Session, float], ...] = (
     (move_a_border, 3), (fill_by_dma, 5), (debug_situations.halt_on_the_way, 3),
+    (look_in_from_a_halt, 2), (ask_at_work, 2),
     (boot_sessions.write_in_a_row, 3), (boot_sessions.look_at_what_boots, 3),
     (boot_sessions.erase, 0.15), *debug_situations.SESSIONS,
 )
@@ -374,12 +394,19 @@ def spoiled(rng: random.Random, sources: Sources) -> PairCase:
     pair = outside(rng, sources) if rng.random() < 0.4 else secrets(rng, sources)
     file = pair.first_file()
     if rng.random() < 0.4:
-        pair.case.refused_image = spoiled_image(rng, file)
+        pair.case.refused_image = spoiled_or_long(rng, file)
     if rng.random() < 0.5:
-        pair.refused_second = spoiled_image(rng, file)
+        pair.refused_second = spoiled_or_long(rng, file)
     if rng.random() < 0.5:
         pair.case.refused_bench = spoiled_bench(rng, pair.case.bench_file())
     return pair
+
+
+def spoiled_or_long(rng: random.Random, file: bytes) -> bytes:
+    """Now and then as long as it may be, or a byte longer."""
+    if rng.random() < 0.15:
+        return file + bytes(LONGEST_IMAGE + rng.randrange(2) - len(file))
+    return spoiled_image(rng, file)
 
 
 Change = Callable[[random.Random, Sources], PairCase]
