@@ -390,22 +390,23 @@ def one_name(rng: random.Random, sources: Sources) -> PairCase:
 
 
 def spoiled(rng: random.Random, sources: Sources) -> PairCase:
-    """Some of the files, of which the first that is refused decides."""
+    """Some of the files, in the order of the words. The first that is refused decides."""
     pair = outside(rng, sources) if rng.random() < 0.4 else secrets(rng, sources)
     file = pair.first_file()
-    if rng.random() < 0.4:
+    refused = rng.choice(((1,), (2,), (3,), (1, 2), (1, 2), (1, 3), (2, 3), (1, 2, 3)))
+    if 1 in refused:
         pair.case.refused_image = spoiled_or_long(rng, file)
-    if rng.random() < 0.5:
+    if 2 in refused:
         pair.refused_second = spoiled_or_long(rng, file)
-    if rng.random() < 0.5:
+    if 3 in refused:
         pair.case.refused_bench = spoiled_bench(rng, pair.case.bench_file())
     return pair
 
 
 def spoiled_or_long(rng: random.Random, file: bytes) -> bytes:
     """Now and then as long as it may be, or a byte longer."""
-    if rng.random() < 0.15:
-        return file + bytes(LONGEST_IMAGE + rng.randrange(2) - len(file))
+    if rng.random() < 0.35:
+        return file + bytes(LONGEST_IMAGE + rng.choice((0, 1, 1)) - len(file))
     return spoiled_image(rng, file)
 
 
