@@ -1,24 +1,17 @@
 -- The events of one tick, among events whose ticks don't fall.
-use Rattle.std.proofs.Common.{◌≡◌, ℕ, zero, suc, true, false, ◌==◌, nat_lt, nat_le, ◌≤◌, List, [], ◌∷◌, length, take, drop, refl, ap, arith}
+use Rattle.std.proofs.Common.{◌≡◌, ℕ, zero, suc, true, false, ◌==◌, nat_le, nat_lt, ◌-◌, ◌<◌, ◌≤◌, List, [], ◌∷◌, length, get_or, take, drop, refl, ap, arith}
 use Rattle.std.proofs.lemmas.Bool.Decides.{nat_tests}
-use Rattle.std.specs.List.Sorted.{IsPartitionPoint}
+use Rattle.std.specs.List.Sorted.{IsNonDecreasingBy, IsPartitionPoint}
 use Rattle.stimulus.specs.declared.events.Event.{Event}
-use Rattle.stimulus.specs.Events.{on_tick}
+use Rattle.stimulus.specs.Events.{IsEnd, IsStart, on_tick}
 
--- a binary search for the first event at the tick or later, and for the first one later
-abbrev pub IsStart : ℕ → List Event → ℕ → Type 0
-IsStart tick events start = IsPartitionPoint (λ (event : Event). nat_lt event.tick tick ≡ true) (λ (event : Event). nat_lt event.tick tick ≡ false) events start
-
-abbrev pub IsEnd : ℕ → List Event → ℕ → Type 0
-IsEnd tick events end = IsPartitionPoint (λ (event : Event). nat_le event.tick tick ≡ true) (λ (event : Event). nat_le event.tick tick ≡ false) events end
-
-test_earlier : (a b : ℕ) → nat_lt a b ≡ true → (a == b) ≡ false
+test_earlier : (a b : ℕ) → a < b → (a == b) ≡ false
 test_earlier a b h = grind (arith, nat_tests)
 
-test_later : (a b : ℕ) → nat_le a b ≡ false → (a == b) ≡ false
+test_later : (a b : ℕ) → b < a → (a == b) ≡ false
 test_later a b h = grind (arith, nat_tests)
 
-test_now : (a b : ℕ) → nat_lt a b ≡ false → nat_le a b ≡ true → (a == b) ≡ true
+test_now : (a b : ℕ) → b ≤ a → a ≤ b → (a == b) ≡ true
 test_now a b g h = grind (arith, nat_tests)
 
 -- where the first `n` are the ones at the tick, and no event is before it
@@ -41,3 +34,51 @@ on_tick-found tick [] (suc start) n room more begins ends = absurd (omega arith)
 on_tick-found tick (e ∷ events) (suc start) n room more begins ends =
     let later = on_tick-found tick events start n (omega arith) more (λ k d l h. begins.0 (suc k) d (omega arith) (omega arith), λ k d l h. begins.1 (suc k) d (omega arith) (omega arith)) ends in
     rw (test_earlier e.tick tick (begins.0 0 e (omega arith) (omega arith))) later
+
+-- a place is the start where the event before it comes before the tick, and the one at it doesn't
+pub start_is :
+    (tick : ℕ) (events : List Event) (place : ℕ) → IsNonDecreasingBy (λ (event : Event). event.tick) events →
+    ((d : Event) → 0 < place → (get_or events (place - 1) d).tick < tick) →
+    ((d : Event) → place < length events → tick ≤ (get_or events place d).tick) → place ≤ length events → IsStart tick events place
+start_is tick events place sorted before behind within = (
+  λ k d l h.
+      let below = sorted k (place - 1) d (omega arith) (omega arith) in
+      let last = before d (omega arith) in
+      omega arith,
+  λ k d l h.
+      let above = sorted place k d (omega arith) (omega arith) in
+      let first = behind d (omega arith) in
+      omega arith,
+)
+
+-- where the first event comes behind the tick, all do
+pub none_up_to :
+    (tick : ℕ) (events : List Event) → IsNonDecreasingBy (λ (event : Event). event.tick) events →
+    ((d : Event) → 0 < length events → tick < (get_or events 0 d).tick) → IsEnd tick events 0
+none_up_to tick events sorted first = (
+  λ k d l h. absurd (omega arith),
+  λ k d l h.
+      let above = sorted 0 k d (omega arith) (omega arith) in
+      let least = first d (omega arith) in
+      omega arith,
+)
+
+earlier : (a b : ℕ) → nat_lt a b ≡ true → a < b
+earlier a b held = grind (arith, nat_tests)
+
+not_earlier : (a b : ℕ) → nat_lt a b ≡ false → b ≤ a
+not_earlier a b held = grind (arith, nat_tests)
+
+at_most : (a b : ℕ) → nat_le a b ≡ true → a ≤ b
+at_most a b held = grind (arith, nat_tests)
+
+above : (a b : ℕ) → nat_le a b ≡ false → b < a
+above a b held = grind (arith, nat_tests)
+
+-- what a search for the first event that doesn't come before the tick finds
+pub start_found : (tick : ℕ) (events : List Event) (count : ℕ) → IsPartitionPoint (λ (event : Event). nat_lt event.tick tick ≡ true) (λ (event : Event). nat_lt event.tick tick ≡ false) events count → IsStart tick events count
+start_found tick events count point = (λ k d l h. earlier _ _ (point.0 k d l h), λ k d l h. not_earlier _ _ (point.1 k d l h))
+
+-- and one for the first that comes behind it
+pub end_found : (tick : ℕ) (events : List Event) (count : ℕ) → IsPartitionPoint (λ (event : Event). nat_le event.tick tick ≡ true) (λ (event : Event). nat_le event.tick tick ≡ false) events count → IsEnd tick events count
+end_found tick events count point = (λ k d l h. at_most _ _ (point.0 k d l h), λ k d l h. above _ _ (point.1 k d l h))

@@ -1,6 +1,7 @@
 -- The events of a bench: what one of them is, and which rules hold among them.
-use Rattle.std.specs.Prelude.{ℕ, ◌+◌, ◌-◌, ◌≤◌, Bool, ◌&&◌, ◌==◌, nat_le, nat_lt, List, [], ◌∷◌, length, filter, codes, Option, Some, None, if◌then◌else◌, option_map, option_and_then}
+use Rattle.std.specs.Prelude.{ℕ, ◌+◌, ◌-◌, ◌<◌, ◌≤◌, Bool, ◌&&◌, ◌==◌, nat_le, nat_lt, List, [], ◌∷◌, length, filter, codes, Option, Some, None, if◌then◌else◌, option_map, option_and_then}
 use Rattle.std.specs.List.{list_all}
+use Rattle.std.specs.List.Sorted.{IsPartitionPoint}
 use Rattle.toml.specs.Data.{Data, Members, as_str, as_table, get_member}
 use Rattle.stimulus.specs.declared.events.Event.{Event}
 use Rattle.stimulus.specs.declared.events.EventAct.{EventAct}
@@ -102,6 +103,14 @@ event_of end value = option_and_then (event_in end) (as_table value)
 -- the events of one tick
 unfoldable pub on_tick : ℕ → List Event → List Event
 on_tick tick events = filter (λ event. event.tick == tick) events
+
+-- the first so many events come before a tick, and no other does
+abbrev pub IsStart : ℕ → List Event → ℕ → Type 0
+IsStart tick events count = IsPartitionPoint (λ (event : Event). event.tick < tick) (λ (event : Event). tick ≤ event.tick) events count
+
+-- the first so many events come up to a tick, and no other does
+abbrev pub IsEnd : ℕ → List Event → ℕ → Type 0
+IsEnd tick events count = IsPartitionPoint (λ (event : Event). event.tick ≤ tick) (λ (event : Event). tick < event.tick) events count
 
 -- no event comes after a tick
 unfoldable pub none_after : ℕ → List Event → Bool

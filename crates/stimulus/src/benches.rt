@@ -83,7 +83,17 @@ impl Bench {
         ensures few { length result.now ≤ most_on_tick }
         ensures in_range { All IsEvent result.now }
     {
-        events_on_tick(&self.events, tick)
+        events_on_tick(&self.events, tick, &mut 0)
+    }
+
+    /// The events of a tick, in the order of the file, for who asks for one tick after another: nothing is searched where
+    /// `done` is what the call for the tick before left there. It may be any number.
+    pub fn next_events(&self, tick: u32, done: &mut usize) -> &[Event]
+        ensures events { result.now ≡ on_tick tick self.now.events }
+        ensures few { length result.now ≤ most_on_tick }
+        ensures in_range { All IsEvent result.now }
+    {
+        events_on_tick(&self.events, tick, done)
     }
 
     /// Says whether an event may stand behind those that the bench has.

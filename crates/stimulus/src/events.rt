@@ -1,7 +1,7 @@
-ghost use Rattle.std.specs.Prelude.{◌≡◌, ◌<◌, ◌≤◌, IsTrue, length};
+ghost use Rattle.std.specs.Prelude.{◌≡◌, ◌-◌, ◌<◌, ◌≤◌, IsTrue, get_or, length};
 ghost use Rattle.std.specs.List.{AllWithin};
 ghost use Rattle.std.specs.List.Sorted.{IsNonDecreasingBy};
-ghost use Rattle.stimulus.specs.Events.{none_after, on_tick};
+ghost use Rattle.stimulus.specs.Events.{IsEnd, IsStart, none_after, on_tick};
 
 use debug_port::Command;
 
@@ -23,14 +23,68 @@ pub struct Event {
     pub act: EventAct,
 }
 
-/// The events of one tick, of events whose ticks don't fall.
-pub fn events_on_tick(events: &[Event], tick: u32) -> &[Event]
+/// Says whether there are so many events, and the last of them comes before a tick.
+fn ends_before(events: &[Event], count: usize, tick: u32) -> bool
+    ensures within { IsTrue result → count ≤ length events.now }
+    ensures last { IsTrue result → (d : Event) → 0 < count
+        → (get_or events.now (count - 1) d).tick < tick }
+{
+    if count == 0 {
+        return true;
+    }
+    match events.get(count - 1) {
+        Some(last) => last.tick < tick,
+        None => false,
+    }
+}
+
+/// Says whether the event behind so many doesn't come before a tick, where there is one.
+fn goes_on_from(events: &[Event], count: usize, tick: u32) -> bool
+    ensures next { IsTrue result → (d : Event) → count < length events.now
+        → tick ≤ (get_or events.now count d).tick }
+{
+    match events.get(count) {
+        Some(next) => tick <= next.tick,
+        None => true,
+    }
+}
+
+/// How many events come before a tick, of events whose ticks don't fall. Where it is `guess` nothing is searched.
+#[tactic(auto, using(crate::proofs::OnTick::start_is))]
+fn count_before(events: &[Event], tick: u32, guess: usize) -> usize
+    requires sorted { IsNonDecreasingBy (λ (event : Event). event.tick) events.now }
+    ensures within { result ≤ length events.now }
+    ensures start { IsStart tick events.now result }
+{
+    if ends_before(events, guess, tick) && goes_on_from(events, guess, tick) {
+        guess
+    } else {
+        events.partition_point(|event| event.tick < tick)
+    }
+}
+
+/// How many events come up to a tick, of events whose ticks don't fall. Mostly the first comes behind it.
+fn count_up_to(events: &[Event], tick: u32) -> usize
+    requires sorted { IsNonDecreasingBy (λ (event : Event). event.tick) events.now }
+    ensures within { result ≤ length events.now }
+    ensures end { IsEnd tick events.now result }
+{
+    match events.first() {
+        Some(first) if tick < first.tick => 0,
+        _ => events.partition_point(|event| event.tick <= tick),
+    }
+}
+
+/// The events of one tick, of events whose ticks don't fall. `done` is how many come before it, if it is right, and then
+/// how many come up to it.
+pub fn events_on_tick<'a>(events: &'a [Event], tick: u32, done: &mut usize) -> &'a [Event]
     requires { IsNonDecreasingBy (λ (event : Event). event.tick) events.now }
     ensures { result.now ≡ on_tick tick events.now }
 {
-    let start = events.partition_point(|event| event.tick < tick);
+    let start = count_before(events, tick, *done);
     let rest = &events[start..];
-    let count = rest.partition_point(|event| event.tick <= tick);
+    let count = count_up_to(rest, tick);
+    *done = start + count;
     &rest[..count]
 }
 
