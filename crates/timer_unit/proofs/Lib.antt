@@ -1,1 +1,2 @@
 pub mod CompareRegisters
+pub mod Still

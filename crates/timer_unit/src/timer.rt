@@ -273,7 +273,8 @@ impl<const REGISTERS: usize> Timer<REGISTERS> {
     }
 
     /// The timer isn't stopped, and the clock that TASSEL selects has an edge.
-    fn counts(&self, smclk: bool, aclk: bool) -> bool
+    #[inline]
+    pub fn counts(&self, smclk: bool, aclk: bool) -> bool
         ensures { result ≡ counts self.now smclk aclk }
     {
         if (self.ctl >> MC) & 3 == 0 {

@@ -5,6 +5,7 @@ ghost use Rattle.chip_words.specs.InterruptLines.{TA1_LINE as LAST_LINE};
 ghost use Rattle.chip_words.specs.Sizes.{IsByteOrWord, span};
 ghost use Rattle.chip_words.specs.Timers.{Timers as TimerRegisters, fired, first_timers, timers_cause, timers_entered, timers_lines, timers_ticked, timers_touched, timers_word, timers_written, is_of_timer, triggers_from};
 ghost use Rattle.chip_words.specs.Timer.{timer_ticked};
+ghost use Rattle.timer_unit.specs.Edges.{some_counts};
 
 use crate::timer::Timer;
 use crate::watchdog::Watchdog;
@@ -110,8 +111,37 @@ impl Timers {
     }
 
     /// Takes the edges that SMCLK and ACLK have in a tick.
-    #[tactic(auto, unfolding(chip_words::specs::Timers::fired, chip_words::specs::Timers::timers_ticked, chip_words::specs::Watchdog::watchdog_ticked))]
+    #[inline]
+    #[tactic(auto, using(crate::proofs::Still::still_fires_nothing, crate::proofs::Still::still_stays))]
     pub fn tick(&mut self, smclk: bool, aclk: bool) -> Fired
+        ensures fired { result ≡ fired self.old smclk aclk }
+        ensures timers { self.new ≡ timers_ticked self.old smclk aclk }
+    {
+        if self.counts(smclk, aclk) {
+            self.count(smclk, aclk)
+        } else {
+            Fired {
+                interval: false,
+                reset: false,
+                triggers: 0,
+            }
+        }
+    }
+
+    /// Says whether the watchdog or a timer counts an edge of a tick. Mostly none does.
+    #[inline]
+    fn counts(&self, smclk: bool, aclk: bool) -> bool
+        ensures { result ≡ some_counts self.now smclk aclk }
+    {
+        self.watchdog.counts(smclk, aclk)
+            || self.ta0.counts(smclk, aclk)
+            || self.ta1.counts(smclk, aclk)
+            || self.tb0.counts(smclk, aclk)
+    }
+
+    /// Takes the edges of a tick in which one of them is counted.
+    #[tactic(auto, unfolding(chip_words::specs::Timers::fired, chip_words::specs::Timers::timers_ticked, chip_words::specs::Watchdog::watchdog_ticked))]
+    fn count(&mut self, smclk: bool, aclk: bool) -> Fired
         ensures fired { result ≡ fired self.old smclk aclk }
         ensures timers { self.new ≡ timers_ticked self.old smclk aclk }
     {

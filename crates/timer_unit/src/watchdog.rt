@@ -99,7 +99,8 @@ impl Watchdog {
     }
 
     /// Says whether the clock that WDTSSEL selects has an edge that is counted.
-    fn counts(&self, smclk: bool, aclk: bool) -> bool
+    #[inline]
+    pub fn counts(&self, smclk: bool, aclk: bool) -> bool
         ensures { result ≡ counts self.now smclk aclk }
     {
         let is_held = (self.wdtctl >> WDTHOLD) & 1 == 1;

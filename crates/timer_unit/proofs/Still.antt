@@ -1,0 +1,58 @@
+-- A tick of which no edge is counted leaves the timers as they are, and sets nothing off.
+use Rattle.std.proofs.Common.{◌≡◌, ℕ, Bool, true, false, ◌||◌, refl, arith}
+use Rattle.chip_words.specs.declared.fired.Fired.{Fired}
+use Rattle.chip_words.specs.Timer.{Timer, counts, moves, timer_ticked}
+use Rattle.chip_words.specs.Timers.{Timers, fired, timers_ticked, triggers_from}
+use Rattle.chip_words.specs.Watchdog.{counts as watchdog_counts, watchdog_ticked}
+use Rattle.timer_unit.specs.Edges.{some_counts}
+
+-- neither of two
+neither : (a b : Bool) → (a || b) ≡ false → (a ≡ false) × (b ≡ false)
+neither false b h = (refl, h)
+neither true b h = grind (arith, h)
+
+record IsStill (timers : Timers) (smclk aclk : Bool) : Type 0 where
+  watchdog : watchdog_counts timers.watchdog smclk aclk ≡ false
+  ta0 : counts timers.ta0 smclk aclk ≡ false
+  ta1 : counts timers.ta1 smclk aclk ≡ false
+  tb0 : counts timers.tb0 smclk aclk ≡ false
+
+still : (timers : Timers) (smclk aclk : Bool) → some_counts timers smclk aclk ≡ false → IsStill timers smclk aclk
+still timers smclk aclk none =
+    let (rest, tb0) = neither _ _ none in
+    let (rest, ta1) = neither _ _ rest in
+    let (watchdog, ta0) = neither _ _ rest in
+    record { watchdog = watchdog; ta0 = ta0; ta1 = ta1; tb0 = tb0 }
+
+timer_stays : (timer : Timer) (smclk aclk : Bool) → counts timer smclk aclk ≡ false → timer_ticked timer smclk aclk ≡ timer
+unfolding timer_ticked
+timer_stays timer smclk aclk none = rw none refl
+
+triggers_nothing : (number : ℕ) (timer : Timer) (smclk aclk : Bool) → counts timer smclk aclk ≡ false → triggers_from number timer smclk aclk ≡ 0
+unfolding moves
+triggers_nothing number timer smclk aclk none = rw none refl
+
+pub still_stays : (timers : Timers) (smclk aclk : Bool) → some_counts timers smclk aclk ≡ false → timers ≡ timers_ticked timers smclk aclk
+unfolding timers_ticked watchdog_ticked
+still_stays timers smclk aclk none =
+    let is = still timers smclk aclk none in
+    rw (
+      is.watchdog,
+      timer_stays timers.ta0 smclk aclk is.ta0,
+      timer_stays timers.ta1 smclk aclk is.ta1,
+      timer_stays timers.tb0 smclk aclk is.tb0,
+    ) refl
+
+abbrev nothing : Fired
+nothing = record { interval = false; reset = false; triggers = 0 }
+
+pub still_fires_nothing : (timers : Timers) (smclk aclk : Bool) → some_counts timers smclk aclk ≡ false → nothing ≡ fired timers smclk aclk
+unfolding fired
+still_fires_nothing timers smclk aclk none =
+    let is = still timers smclk aclk none in
+    rw (
+      is.watchdog,
+      triggers_nothing _ timers.ta0 smclk aclk is.ta0,
+      triggers_nothing _ timers.ta1 smclk aclk is.ta1,
+      triggers_nothing _ timers.tb0 smclk aclk is.tb0,
+    ) refl
