@@ -1,5 +1,6 @@
 pub mod MemoryBy
 pub mod Kept
 pub mod ListedAccesses
+pub mod NothingNoted
 pub mod Places
 pub mod Writes

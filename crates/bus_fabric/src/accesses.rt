@@ -215,7 +215,8 @@ impl Fabric {
         }
     }
 
-    /// An access that is present, at an aligned address.
+    /// An access that is present, at an aligned address. Each of the calls of `Bus` has a copy of its own.
+    #[inline(always)]
     fn access_present(&mut self, who: Agent, kind: Kind, at: u32, size: Size, value: u32) -> u32
         requires place { at < 0x100000 }
         requires even { aligned_at size at ≡ at }
@@ -237,17 +238,20 @@ impl Bus for Fabric {
 
     ghost part = { bus_part_of };
 
+    #[inline(never)]
     #[tactic(auto, unfolding(chip_words::specs::Access::access))]
     fn fetch(&mut self, ia: u32, at: u32) -> u16 {
         let at = aligned(at, Size::Word);
         self.access_present(Agent::Cpu(ia), Kind::Fetch, at, Size::Word, 0) as u16
     }
 
+    #[inline(never)]
     #[tactic(auto, unfolding(chip_words::specs::Access::access))]
     fn read(&mut self, who: Agent, at: u32, size: Size) -> u32 {
         self.access_present(who, Kind::Read, aligned(at, size), size, 0)
     }
 
+    #[inline(never)]
     #[tactic(auto, unfolding(chip_words::specs::Access::access))]
     fn write(&mut self, who: Agent, at: u32, size: Size, value: u32) {
         let at = aligned(at, size);

@@ -122,8 +122,18 @@ impl Fabric {
     }
 
     /// Ends a step: each place that was noted sets its flag, and asks for a reset or for the NMI.
-    #[tactic(auto, unfolding(chip_words::specs::Steps::ended_with))]
+    #[inline]
     pub fn end_step(&mut self)
+        ensures step { Changes step_ended self.old self.new }
+    {
+        if self.noted != 0 {
+            self.end_violations();
+        }
+    }
+
+    /// Ends a step in which a place was noted.
+    #[tactic(auto, unfolding(chip_words::specs::Steps::ended_with))]
+    fn end_violations(&mut self)
         ensures step { Changes step_ended self.old self.new }
     {
         let noted = self.noted;
