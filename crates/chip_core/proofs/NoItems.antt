@@ -11,7 +11,7 @@ use Rattle.chip_core.specs.Tick.{stages, timed}
 use Rattle.chip_core.specs.Turns.{owned, step_owned}
 
 -- nothing is left and not left
-left_and_not : (private powered : Bool) (items : List Item) → (if private && powered && not private then items else []) ≡ []
+pub left_and_not : (private powered : Bool) (items : List Item) → (if private && powered && not private then items else []) ≡ []
 left_and_not true true items = refl
 left_and_not true false items = refl
 left_and_not false powered items = refl

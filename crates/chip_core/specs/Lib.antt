@@ -9,6 +9,7 @@ pub mod Owners
 pub mod Turns
 pub mod Steps
 pub mod Tick
+pub mod Idle
 pub mod Lines
 pub mod Items
 pub mod Inside

@@ -1,15 +1,17 @@
 ghost use Rattle.std.specs.Prelude.{◌≡◌, ◌+◌, ◌<◌, ◌≤◌, ◌++◌, [], All, IfOk, IfSome, slice_index};
 ghost use Rattle.arrayvec.specs.ArrayVec.{array_vec_len};
 ghost use Rattle.trace_print.specs.Lines.{IsPrintable};
+ghost use Rattle.power_schedule.specs.declared.powers.Power.TheVariants.{On};
 ghost use Rattle.stimulus.specs.Events.{IsAct};
 ghost use Rattle.chip_words.specs.Bits.{has_bit};
 ghost use Rattle.chip_words.specs.Causes.{is_of_bor as is_of_bor_cause};
 ghost use Rattle.chip_words.specs.Registers.{SR as STATUS};
+ghost use Rattle.chip_core.specs.Idle.{is_undisturbed};
 ghost use Rattle.chip_core.specs.FirstState.{first_state};
 ghost use Rattle.chip_core.specs.Items.{IsItem, items_of, stages_items};
 ghost use Rattle.chip_core.specs.Lines.{event_lines, halted_since, lines_of, lines_with_power, power_lines, stage_lines, stimulus_lines};
 ghost use Rattle.chip_core.specs.Pins.{pins_of};
-ghost use Rattle.chip_core.specs.Tick.{aclk_edge, after_bor, after_event, after_puc, at_rest, budget_of, clocked, cut as cut_state, powered, reset as reset_of, smclk_edge, stages, stimulated, taken_cause, ticked};
+ghost use Rattle.chip_core.specs.Tick.{aclk_edge, after_bor, after_event, after_puc, at_rest, budget_of, clocked, cut as cut_state, powered, reset as reset_of, smclk_edge, stages, stages_from, stimulated, taken_cause, ticked};
 
 use crate::images::image_memory;
 use crate::lines::{tell_halt, tell_reset};
@@ -56,6 +58,8 @@ pub struct Chip {
     /// The second tick of a transfer of DMA is next.
     pub(crate) second_tick: bool,
     pub(crate) tick: u32,
+    /// How many of the bench's events were done. It spares a search, and any number is right.
+    events_done: usize,
 }
 
 impl Model for Chip {
@@ -96,6 +100,7 @@ impl Chip {
             pending: false,
             second_tick: false,
             tick: 0,
+            events_done: 0,
         })
     }
 
@@ -180,16 +185,52 @@ impl Chip {
             }
             Power::On => {
                 self.time();
-                let start = self.start();
-                let was_halted = self.halted;
-                let owner = self.owner();
-                let made = self.own(owner);
-                self.note_step(power, &start, made.step, items);
-                self.note_boot(power, &start, made.boot, items);
-                self.end_stages(was_halted, made.boot, lines);
-                self.note_exit(&start, items);
+                self.do_turn(lines, items);
             }
         }
+    }
+
+    /// The stages behind the clock edges, in a tick with power.
+    ///
+    /// Most ticks are those of a processor that is busy with the cycles of its instruction, or sleeps: they come first.
+    fn do_turn(&mut self, lines: &mut Lines, items: &mut Items)
+        requires room { array_vec_len lines.old ≤ 9 }
+        requires printable { All IsPrintable lines.old.items }
+        requires none { items.old.items ≡ [] }
+        ensures chip { self.new ≡ (stages_from On self.old).after }
+        ensures lines { lines.new.items ≡ lines.old.items ++ stage_lines On (stages_from On self.old) }
+        ensures items { items.new.items ≡ stages_items On (stages_from On self.old) }
+        ensures count { array_vec_len lines.new ≤ 13 }
+        ensures printable { All IsPrintable lines.new.items }
+        ensures given { All IsItem items.new.items }
+    {
+        if self.is_undisturbed() {
+            if self.busy > 0 {
+                self.busy -= 1;
+                return;
+            }
+            if self.makes_no_step() {
+                return;
+            }
+        }
+        let start = self.start();
+        let was_halted = self.halted;
+        let owner = self.owner();
+        let made = self.own(owner);
+        self.note_step(Power::On, &start, made.step, items);
+        self.note_boot(Power::On, &start, made.boot, items);
+        self.end_stages(was_halted, made.boot, lines);
+        self.note_exit(&start, items);
+    }
+
+    /// Says whether neither a boot, nor DMA, nor a reset is due.
+    fn is_undisturbed(&self) -> bool
+        ensures { result ≡ is_undisturbed self.now }
+    {
+        self.boot.is_none()
+            && !self.second_tick
+            && self.fabric.dma.quiet()
+            && self.fabric.pending().is_none()
     }
 
     /// Shows what the turn did, and does the reset.
@@ -278,7 +319,7 @@ impl Chip {
         ensures count { array_vec_len lines.new ≤ 9 }
         ensures printable { All IsPrintable lines.new.items }
     {
-        let events = bench.events(self.tick);
+        let events = bench.next_events(self.tick, &mut self.events_done);
         for event in events {
             self.react(event.act, lines);
         }

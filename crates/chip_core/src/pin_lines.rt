@@ -8,12 +8,16 @@ use port_unit::Pins;
 use trace_print::TraceItem;
 
 /// Adds the lines of the ports whose levels changed.
+#[tactic(auto, using(crate::proofs::SamePins::no_lines))]
 pub fn tell_changes(before: Pins, now: Pins, lines: &mut Lines)
     requires room { array_vec_len lines.old ≤ 28 }
     requires printable { All IsPrintable lines.old.items }
     ensures lines { lines.new.items ≡ lines.old.items ++ pin_lines before now }
     ensures printable { All IsPrintable lines.new.items }
 {
+    if before == now {
+        return;
+    }
     tell_port(1, before, now, lines);
     tell_port(2, before, now, lines);
     tell_port(3, before, now, lines);

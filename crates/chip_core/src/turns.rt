@@ -1,7 +1,8 @@
 //! The turn of the bus owner.
 
-ghost use Rattle.std.specs.Prelude.{◌≡◌, ◌<◌, Some};
+ghost use Rattle.std.specs.Prelude.{◌≡◌, ◌<◌, IfSome, Some};
 ghost use Rattle.chip_words.specs.Causes.{least_cause, lesser_cause};
+ghost use Rattle.chip_core.specs.Idle.{makes_no_step};
 ghost use Rattle.chip_core.specs.Steps.{HasStep, IsStepOf};
 ghost use Rattle.chip_core.specs.Owners.{IsChannel};
 ghost use Rattle.chip_core.specs.Turns.{accepted_by, entered, free_turn, instructed, instruction_ended, is_off as is_off_state, owned, owner_of, processor_turn, reserved_cause, rested_by, step_owned, takes_interrupts as takes_interrupts_state, transfer_turn};
@@ -116,11 +117,7 @@ impl Chip {
         ensures step { result ≡ (free_turn (accepted_by self.old) self.old).step }
         ensures made { HasStep result self.new }
     {
-        match best(
-            self.fabric.lines(),
-            self.takes_interrupts(),
-            self.fabric.nmi,
-        ) {
+        match self.accepted() {
             Some(vector) => Some(self.enter(vector)),
             None => {
                 if self.is_off() {
@@ -130,6 +127,26 @@ impl Chip {
                 }
             }
         }
+    }
+
+    /// Says whether the processor, where it isn't busy, makes no step.
+    pub(crate) fn makes_no_step(&self) -> bool
+        ensures { result ≡ makes_no_step self.now }
+    {
+        !self.pending && (self.halted || self.dead || (self.is_off() && self.accepted().is_none()))
+    }
+
+    /// The vector of the interrupt that is accepted. The lines are asked for only where one of them may be.
+    #[tactic(auto, unfolding(chip_words::specs::Interrupts::accepted))]
+    fn accepted(&self) -> Option<u32>
+        ensures vector { result ≡ accepted_by self.now }
+        ensures place { IfSome result (λ vector. vector < 0x100000) }
+    {
+        let takes = self.takes_interrupts();
+        if !takes && !self.fabric.nmi {
+            return None;
+        }
+        best(self.fabric.lines(), takes, self.fabric.nmi)
     }
 
     fn takes_interrupts(&self) -> bool

@@ -7,6 +7,6 @@ use Rattle.chip_core.proofs.chips.Chip.stimulate.Goals as goal
 pub returns-clause-lines : goal.returns-clause-lines
 unfolding stimulus_lines
 returns-clause-lines c =
-    all_told (c.loop-event.lines).items (c.args.lines.now).items c.loop-event.event-index c.events-events.result.now c.loop-event.self c.args.self.now (omega arith) c.loop-event.invariant.lines
+    all_told (c.loop-event.lines).items (c.args.lines.now).items c.loop-event.event-index c.next_events-events.result.now c.loop-event.self c.args.self.now (omega arith) c.loop-event.invariant.lines
     ∙ ap (λ events. (c.args.lines.now).items ++ events_lines events c.args.self.now)
-    (c.events-events.ensures.events ∙ ap (λ chip. on_tick chip.tick (c.args.bench.now).events) c.self.view_is)
+    (c.next_events-events.ensures.events ∙ ap (λ chip. on_tick chip.tick (c.args.bench.now).events) c.self.view_is)

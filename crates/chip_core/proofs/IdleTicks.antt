@@ -1,0 +1,198 @@
+-- A tick of a chip that nothing disturbs and whose processor makes no step has no line and no item, and changes nothing but
+-- how long the processor is busy.
+use Rattle.std.proofs.Common.{◌≡◌, ◌∙◌, ℕ, ◌-◌, ◌+◌, Bool, true, false, ◌==◌, ◌&&◌, ◌||◌, not, nat_lt, List, [], ◌∷◌, ◌++◌, map, refl, sym, ap, inl, inr, arith}
+use Rattle.std.specs.Prelude.{if◌then◌else◌, Option, Some, None, is_none, slice_index}
+use Rattle.std.proofs.lemmas.Bool.{and_parts, cases_Bool}
+use Rattle.std.proofs.lemmas.Bool.Decides.{nat_tests}
+use Rattle.std.proofs.lemmas.List.{append-nil}
+use Rattle.chip_words.specs.Channel.{Channel}
+use Rattle.chip_words.specs.Registers.{PC}
+use Rattle.dma_unit.specs.Transfers.{are_quiet, channel_passed, due, due_from, is_quiet, passed}
+use Rattle.power_schedule.specs.declared.powers.Power.TheVariants.{On}
+use Rattle.trace_print.specs.declared.items.TraceItem.{TraceItem}
+use Rattle.trace_print.specs.declared.releases.Item.{Item}
+use Rattle.chip_core.specs.declared.owners.Owner.TheVariants.{Processor}
+use Rattle.chip_core.specs.Idle.{is_undisturbed, makes_no_step}
+use Rattle.chip_core.specs.Items.{stages_items}
+use Rattle.chip_core.specs.Lines.{stage_lines}
+use Rattle.chip_core.specs.Phase.{is_private}
+use Rattle.chip_core.specs.State.{State}
+use Rattle.chip_core.specs.Tick.{Stages, reset, stages_by, stages_from, taken_cause}
+use Rattle.chip_core.specs.Turns.{Turn, owned, owner_of, accepted_by, is_off, processor_turn, step_owned, with_dma, without_step}
+use Rattle.chip_core.proofs.NoItems.{left_and_not}
+
+-- What it says, one by one.
+
+none_there : {A : Type 0} (option : Option A) → is_none option ≡ true → option ≡ None
+none_there None h = refl
+none_there (Some x) h = grind (arith, h)
+
+not_set : (test : Bool) → not test ≡ true → test ≡ false
+not_set false h = refl
+not_set true h = grind (arith, h)
+
+record IsCalm (chip : State) : Type 0 where
+  booted : chip.boot ≡ None
+  first_tick : chip.second_tick ≡ false
+  quiet : are_quiet (((chip.bus).units).dma).channels ≡ true
+  cause : taken_cause chip ≡ None
+
+calm : (chip : State) → is_undisturbed chip ≡ true → IsCalm chip
+unfolding is_quiet
+calm chip h =
+    let (rest, cause) = and_parts _ _ h in
+    let (rest, quiet) = and_parts _ _ rest in
+    let (booted, second) = and_parts _ _ rest in
+    record {
+      booted = none_there chip.boot booted;
+      first_tick = not_set chip.second_tick second;
+      quiet = quiet;
+      cause = none_there (taken_cause chip) cause;
+    }
+
+-- DMA.
+
+not_due : (waiting : ℕ) (others : Bool) → (waiting == 0) ≡ true → (nat_lt 0 waiting && others) ≡ false
+not_due waiting others none = grind (arith, nat_tests)
+
+none_due : (n : ℕ) (channels : List Channel) → are_quiet channels ≡ true → due_from n channels ≡ None
+none_due n [] quiet = refl
+none_due n (channel ∷ more) quiet =
+    let (here, rest) = and_parts _ _ quiet in
+    let (waits, rests) = and_parts _ _ here in
+    rw (not_due channel.waiting _ waits) (none_due (n + 1) more rest)
+
+no_rest : (rest : ℕ) → (rest == 0) ≡ true → rest - 1 ≡ rest
+no_rest rest none = grind (arith, nat_tests)
+
+none_rests : (channels : List Channel) → are_quiet channels ≡ true → map channel_passed channels ≡ channels
+none_rests [] quiet = refl
+none_rests (channel ∷ more) quiet =
+    let (here, rest) = and_parts _ _ quiet in
+    let (waits, rests) = and_parts _ _ here in
+    rw (none_rests more rest) (ap (λ rest. record channel { rest = rest } ∷ more) (no_rest channel.rest rests))
+
+-- The turn.
+
+abbrev with_busy : ℕ → State → State
+with_busy left chip = record chip { busy = left }
+
+owner_is : (chip : State) → IsCalm chip → owner_of chip ≡ Processor
+unfolding owner_of due
+owner_is chip is = rw (is.booted, is.first_tick, none_due 0 _ is.quiet) refl
+
+rests_stay : (chip : State) → IsCalm chip → with_dma passed chip ≡ chip
+unfolding passed
+rests_stay chip is = ap (λ channels. with_dma (λ dma. record dma { channels = channels }) chip) (none_rests _ is.quiet)
+
+-- a processor that is busy
+abbrev IsBusy : State → Type 0
+IsBusy chip = nat_lt 0 chip.busy ≡ true
+
+counts_down : (chip : State) → IsBusy chip → processor_turn chip ≡ without_step (with_busy (chip.busy - 1) chip)
+unfolding processor_turn
+counts_down chip busy = rw busy refl
+
+-- one that isn't, and makes no step
+record IsStepless (chip : State) : Type 0 where
+  idle : nat_lt 0 chip.busy ≡ false
+  pending : chip.pending ≡ false
+  why : ((chip.halted || chip.dead) || (is_off chip && is_none (accepted_by chip))) ≡ true
+
+stepless : (chip : State) → nat_lt 0 chip.busy ≡ false → makes_no_step chip ≡ true → IsStepless chip
+stepless chip idle h =
+    let (pending, why) = and_parts _ _ h in
+    record { idle = idle; pending = not_set chip.pending pending; why = why }
+
+stays : (chip : State) → IsStepless chip → processor_turn chip ≡ without_step chip
+unfolding processor_turn
+stays chip is =
+    elim (cases_Bool (chip.halted || chip.dead)) [
+      | inl stopped ↦ rw (is.idle, is.pending, stopped) refl
+      | inr running ↦
+          let (off, none) = and_parts (is_off chip) (is_none (accepted_by chip)) (rw running at is.why) in
+          rw (is.idle, is.pending, running, none_there (accepted_by chip) none, off) refl
+    ]
+
+-- The stages, where the turn leaves so much to wait.
+
+no_reset : (left : ℕ) (chip : State) → IsCalm chip → reset (with_busy left chip) ≡ with_busy left chip
+unfolding reset
+no_reset left chip is = rw (is.cause) refl
+
+abbrev with_turn : State → Turn → Stages
+with_turn chip turn = record { ready = chip; owner = Processor; turn = turn; boot = None; after = reset turn.chip }
+
+abbrev waited : ℕ → State → Stages
+waited left chip = record {
+  ready = chip;
+  owner = Processor;
+  turn = without_step (with_busy left chip);
+  boot = None;
+  after = with_busy left chip;
+}
+
+turn_is : (left : ℕ) (chip : State) → IsCalm chip → processor_turn chip ≡ without_step (with_busy left chip) → owned Processor chip ≡ without_step (with_busy left chip)
+unfolding owned
+turn_is left chip is turn = ap processor_turn (rests_stay chip is) ∙ turn
+
+stages_are : (left : ℕ) (chip : State) → IsCalm chip → processor_turn chip ≡ without_step (with_busy left chip) → stages_from On chip ≡ waited left chip
+unfolding step_owned
+stages_are left chip is turn =
+    ap (λ owner. stages_by On chip owner) (owner_is chip is)
+    ∙ ap (with_turn chip) (turn_is left chip is turn)
+    ∙ ap (λ after. record (waited left chip) { after = after }) (no_reset left chip is)
+
+-- What they show, and what they give away.
+
+not_since : (halted : Bool) (at : ℕ) → (if halted && not halted then Some at else None) ≡ None
+not_since true at = refl
+not_since false at = refl
+
+shows_nothing : (left : ℕ) (chip : State) → IsCalm chip → stage_lines On (waited left chip) ≡ []
+shows_nothing left chip is = rw (is.cause, not_since chip.halted (slice_index chip.registers PC)) refl
+
+gives_nothing : (left : ℕ) (chip : State) → stages_items On (waited left chip) ≡ []
+unfolding is_private
+gives_nothing left chip = left_and_not (is_private chip) chip.powered _
+
+-- so all that such a tick does is that it leaves so much to wait
+record IsIdle (left : ℕ) (chip : State) : Type 0 where
+  after : with_busy left chip ≡ (stages_from On chip).after
+  lines : (lines : List TraceItem) → lines ≡ lines ++ stage_lines On (stages_from On chip)
+  items : [] ≡ stages_items On (stages_from On chip)
+
+idle : (left : ℕ) (chip : State) → IsCalm chip → processor_turn chip ≡ without_step (with_busy left chip) → IsIdle left chip
+idle left chip is turn =
+    let stages = stages_are left chip is turn in
+    let no_line = ap (stage_lines On) stages ∙ shows_nothing left chip is in
+    let no_item = ap (stages_items On) stages ∙ gives_nothing left chip in
+    record {
+      after = sym (ap (λ stages. stages.after) stages);
+      lines = λ lines. sym (append-nil lines) ∙ ap (λ more. lines ++ more) (sym no_line);
+      items = sym no_item;
+    }
+
+busy_idle : (chip : State) → is_undisturbed chip ≡ true → nat_lt 0 chip.busy ≡ true → IsIdle (chip.busy - 1) chip
+busy_idle chip undisturbed busy = idle (chip.busy - 1) chip (calm chip undisturbed) (counts_down chip busy)
+
+stepless_idle : (chip : State) → is_undisturbed chip ≡ true → nat_lt 0 chip.busy ≡ false → makes_no_step chip ≡ true → IsIdle chip.busy chip
+stepless_idle chip undisturbed rested stands = idle chip.busy chip (calm chip undisturbed) (stays chip (stepless chip rested stands))
+
+pub busy_after : (chip : State) → is_undisturbed chip ≡ true → nat_lt 0 chip.busy ≡ true → with_busy (chip.busy - 1) chip ≡ (stages_from On chip).after
+busy_after chip undisturbed busy = (busy_idle chip undisturbed busy).after
+
+pub busy_lines : (lines : List TraceItem) (chip : State) → is_undisturbed chip ≡ true → nat_lt 0 chip.busy ≡ true → lines ≡ lines ++ stage_lines On (stages_from On chip)
+busy_lines lines chip undisturbed busy = (busy_idle chip undisturbed busy).lines lines
+
+pub busy_items : (items : List Item) (chip : State) → is_undisturbed chip ≡ true → nat_lt 0 chip.busy ≡ true → items ≡ [] → items ≡ stages_items On (stages_from On chip)
+busy_items items chip undisturbed busy none = none ∙ (busy_idle chip undisturbed busy).items
+
+pub stepless_after : (chip : State) → is_undisturbed chip ≡ true → nat_lt 0 chip.busy ≡ false → makes_no_step chip ≡ true → chip ≡ (stages_from On chip).after
+stepless_after chip undisturbed rested stands = (stepless_idle chip undisturbed rested stands).after
+
+pub stepless_lines : (lines : List TraceItem) (chip : State) → is_undisturbed chip ≡ true → nat_lt 0 chip.busy ≡ false → makes_no_step chip ≡ true → lines ≡ lines ++ stage_lines On (stages_from On chip)
+stepless_lines lines chip undisturbed rested stands = (stepless_idle chip undisturbed rested stands).lines lines
+
+pub stepless_items : (items : List Item) (chip : State) → is_undisturbed chip ≡ true → nat_lt 0 chip.busy ≡ false → makes_no_step chip ≡ true → items ≡ [] → items ≡ stages_items On (stages_from On chip)
+stepless_items items chip undisturbed rested stands none = none ∙ (stepless_idle chip undisturbed rested stands).items
