@@ -8,7 +8,7 @@ use Rattle.cpux_decode.specs.declared.operations.Op2.{Op2}
 use Rattle.cpux_decode.specs.declared.forms.Shape.{Shape}
 use Rattle.cpux_decode.specs.Table.{shape_of}
 use Rattle.cpux_decode.specs.Operands.{bits, source_place, source_words, destination_place}
-use Rattle.cpux_decode.specs.Instructions.{two_operands, long_two_operands, one_operand, long_one_operand, jump, shift_many, instruction_of, decoded, operand_words, length_of, is_extension, SameFront}
+use Rattle.cpux_decode.specs.Instructions.{two_operands, long_two_operands, one_operand, long_one_operand, jump, shift_many, form_of, instruction_of, decoded, operand_words, length_of, is_extension, SameFront}
 use Rattle.cpux_decode.proofs.Shapes.{field_words, shape_words, shape_words-most, is_long_form, shape-alone, extension_words, long_form-alone}
 
 -- ---- operands
@@ -201,8 +201,11 @@ length_of-alone w0 w1 w2 h =
     ∙ ap (λ n. (shape_of w0 w1).words + n)
     (operand_words-alone (shape_of w0 w1).form w0 w2 w1 (long_form-alone w0 w1 h))
 
+pub form_of-alone : (w0 w1 w2 : ℕ) → is_extension w0 ≡ false → form_of w0 w1 ≡ form_of w0 w2
+form_of-alone w0 w1 w2 h = ap (λ (e : Shape). e.form) (shape-alone w0 w1 w2 h)
+
 -- ---- as contracts take them
 
-pub ruleset lengths = (shape_words-most, length_of-positive, length_of-extension, length_of-alone)
+pub ruleset lengths = (shape_words-most, length_of-positive, length_of-extension, length_of-alone, form_of-alone)
 
 pub ruleset fronts = (decoded-front)

@@ -159,6 +159,10 @@ instruction_of (Two op) words = two_operands op words
 abbrev pub is_extension : ℕ → Bool
 is_extension word = bits word 15 11 == 3
 
+-- the form of the instruction that begins with these two
+abbrev pub form_of : ℕ → ℕ → Form
+form_of w0 w1 = (shape_of w0 w1).form
+
 -- the instruction that some words begin with: the table is looked up with the first two
 unfoldable pub decoded : List ℕ → Decoded
 decoded words = instruction_of (shape_of (first_word words) (second_word words)).form words

@@ -63,3 +63,11 @@ pub struct Shape {
     /// The words that the instruction has whatever its addressing modes are, 1 or 2.
     pub words: u8,
 }
+
+/// What one look at the first two words of an instruction tells.
+#[derive(Clone, Copy)]
+pub struct Look {
+    pub form: Form,
+    /// The words of the instruction, 1 to 4.
+    pub count: u32,
+}

@@ -4,7 +4,8 @@
 //! extension word, the address instructions, the shifts by several places, PUSHM, POPM and CALLA.
 #![tactic(auto)]
 
-ghost use Rattle.std.specs.Prelude.{◌≡◌, ◌<◌, ◌≤◌, [], length};
+ghost use Rattle.std.specs.Prelude.{◌≡◌, ◌<◌, ◌≤◌, ℕ, [], length};
+ghost use Rattle.cpux_decode.specs.Instructions.{first_word, form_of, second_word};
 ghost use Rattle.cpux_decode.specs.Ranges.{IsInRange};
 ghost use Rattle.cpux_execute.specs.Steps.{CpuSteps};
 ghost use Rattle.cycle_table.specs.Cycles.{IsInstruction};
@@ -16,7 +17,7 @@ mod register_form;
 mod stack;
 
 use chip_words::{Bus, Regs, wrap20};
-use cpux_decode::{Decoded, PC, decode, is_extension, length};
+use cpux_decode::{Decoded, Form, Look, PC, decode_as, is_extension, look_at};
 pub use cpux_execute::Outcome;
 use cpux_execute::execute;
 use cycle_table::cycles;
@@ -59,15 +60,17 @@ fn execute_extended<B: Bus>(regs: &mut Regs, bus: &mut B, ia: u32, pc: u32, d: &
     Outcome::Cycles(cycles(d, repeats, 0))
 }
 
-/// Decodes the words of the instruction at `ia`, and does it. `next` is the address behind them.
+/// Decodes the words of the instruction at `ia`, whose form is known, and does it. `next` is the address behind them.
 #[tactic(auto, unfolding(crate::specs::Instruction::step_of_words))]
 fn execute_words<B: Bus>(
     regs: &mut Regs,
     bus: &mut B,
+    form: Form,
     words: [u16; 4],
     ia: u32,
     next: u32,
 ) -> Outcome
+    requires form { form ≡ form_of (first_word words) (second_word words) }
     requires place { ia < 0x100000 }
     requires next { next < 0x100000 }
     requires room { length (B.part bus.old).accesses ≤ 4 }
@@ -75,7 +78,7 @@ fn execute_words<B: Bus>(
         (B.part bus.old) regs.new result (B.part bus.new) }
     ensures count { length (B.part bus.new).accesses ≤ 36 }
 {
-    let d = decode(words);
+    let d = decode_as(form, words);
     if is_short(&d) {
         return execute(regs, bus, ia, next, &d);
     }
@@ -83,50 +86,60 @@ fn execute_words<B: Bus>(
     execute_extended(regs, bus, ia, word_end(&d, ia), &d)
 }
 
-/// Fetches the words behind the first two, and executes the instruction of so many words.
+/// Fetches the words behind the first two, and executes the instruction that they begin. `look` is what they tell.
 #[tactic(auto, unfolding(crate::specs::Instruction::of_two_words))]
 fn execute_two_words<B: Bus>(
     regs: &mut Regs,
     bus: &mut B,
-    count: u32,
+    look: Look,
     w0: u16,
     w1: u16,
     ia: u32,
 ) -> Outcome
+    requires form { look.form ≡ form_of w0 w1 }
     requires place { ia < 0x100000 }
     requires room { length (B.part bus.old).accesses ≤ 2 }
-    ensures steps { CpuSteps ia (of_two_words count w0 w1 ia regs.old)
+    ensures steps { CpuSteps ia (of_two_words look.count w0 w1 ia regs.old)
         (B.part bus.old) regs.new result (B.part bus.new) }
     ensures count { length (B.part bus.new).accesses ≤ 36 }
 {
     let third = bytes_behind(4, ia);
     let fourth = bytes_behind(6, ia);
-    if count == 2 {
-        return execute_words(regs, bus, [w0, w1, 0, 0], ia, third);
+    if look.count == 2 {
+        return execute_words(regs, bus, look.form, [w0, w1, 0, 0], ia, third);
     }
     let w2 = bus.fetch(ia, third);
-    if count == 3 {
-        return execute_words(regs, bus, [w0, w1, w2, 0], ia, fourth);
+    if look.count == 3 {
+        return execute_words(regs, bus, look.form, [w0, w1, w2, 0], ia, fourth);
     }
     let w3 = bus.fetch(ia, fourth);
-    execute_words(regs, bus, [w0, w1, w2, w3], ia, bytes_behind(8, ia))
+    execute_words(
+        regs,
+        bus,
+        look.form,
+        [w0, w1, w2, w3],
+        ia,
+        bytes_behind(8, ia),
+    )
 }
 
-/// Fetches the words behind the first, which is no extension word, and executes the instruction of so many words.
+/// Fetches the words behind the first, which is no extension word, and executes the instruction that it begins. `look`
+/// is what it tells.
 #[tactic(auto, unfolding(crate::specs::Instruction::of_one_word))]
-fn execute_one_word<B: Bus>(regs: &mut Regs, bus: &mut B, count: u32, w0: u16, ia: u32) -> Outcome
+fn execute_one_word<B: Bus>(regs: &mut Regs, bus: &mut B, look: Look, w0: u16, ia: u32) -> Outcome
+    requires form { (other : ℕ) → look.form ≡ form_of w0 other }
     requires place { ia < 0x100000 }
     requires room { length (B.part bus.old).accesses ≤ 1 }
-    ensures steps { CpuSteps ia (of_one_word count w0 ia regs.old)
+    ensures steps { CpuSteps ia (of_one_word look.count w0 ia regs.old)
         (B.part bus.old) regs.new result (B.part bus.new) }
     ensures count { length (B.part bus.new).accesses ≤ 36 }
 {
     let second = bytes_behind(2, ia);
-    if count == 1 {
-        return execute_words(regs, bus, [w0, 0, 0, 0], ia, second);
+    if look.count == 1 {
+        return execute_words(regs, bus, look.form, [w0, 0, 0, 0], ia, second);
     }
     let w1 = bus.fetch(ia, second);
-    execute_two_words(regs, bus, count, w0, w1, ia)
+    execute_two_words(regs, bus, look, w0, w1, ia)
 }
 
 /// Executes the instruction at PC, whatever it is, and says how it ended.
@@ -142,8 +155,8 @@ pub fn step<B: Bus>(regs: &mut Regs, bus: &mut B) -> Outcome
     let ia = regs.get(PC);
     let w0 = bus.fetch(ia, ia);
     if !is_extension(w0) {
-        return execute_one_word(regs, bus, length(w0, 0), w0, ia);
+        return execute_one_word(regs, bus, look_at(w0, 0), w0, ia);
     }
     let w1 = bus.fetch(ia, bytes_behind(2, ia));
-    execute_two_words(regs, bus, length(w0, w1), w0, w1, ia)
+    execute_two_words(regs, bus, look_at(w0, w1), w0, w1, ia)
 }
