@@ -31,6 +31,7 @@ const CARRY: u16 = 1;
 ///
 /// CMP and BIT have a result too, which their instructions don't write. An operation that takes a carry takes it from
 /// `sr`: where that is to be 0, clear it there, but for operations that leave the flags.
+#[inline(always)]
 #[tactic(auto, unfolding(crate::specs::Operations::two_status, crate::specs::Operations::two_value))]
 pub fn two(op: Op2, size: Size, src: u32, dst: u32, sr: u16) -> (u32, u16)
     ensures value { result.0 ≡ two_value op size src dst sr }

@@ -98,6 +98,7 @@ pub fn put<B: Bus>(bus: &mut B, ia: u32, at: u32, size: Size, value: u32)
 /// the source is.
 ///
 /// A register and a constant are read with all their 20 bits, at every width.
+#[inline(always)]
 #[tactic(auto, unfolding(crate::specs::Operands::source))]
 pub fn read_source<B: Bus>(
     regs: &Regs,
@@ -150,6 +151,7 @@ fn step(size: Size, r: u8) -> u32
 }
 
 /// Reads a destination for the instruction at `ia`: a register, or memory at the address `at`.
+#[inline(always)]
 #[tactic(auto, unfolding(crate::specs::Operands::target))]
 pub fn read_target<B: Bus>(
     regs: &Regs,
@@ -176,6 +178,7 @@ pub fn read_target<B: Bus>(
 /// Writes a destination for the instruction at `ia`: a register, or memory at the address `at`.
 ///
 /// A register takes any value, and memory one that fits the width.
+#[inline(always)]
 #[tactic(auto, using(chip_words::proofs::Runs::run_then), unfolding(crate::specs::Operands::stored_to))]
 pub fn store<B: Bus>(
     regs: &mut Regs,

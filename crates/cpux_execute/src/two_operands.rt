@@ -90,6 +90,7 @@ fn finish<B: Bus>(
 ///
 /// `ia` is the address of its first word, and `pc` that behind the instruction word. PC in the registers is the next
 /// address. It makes at most three accesses of bytes or words, and six for 20 bits.
+#[inline(always)]
 #[tactic(auto, using(chip_words::proofs::Runs::run_then), unfolding(crate::specs::TwoOperands::two_operands))]
 pub fn perform_two<B: Bus>(
     regs: &mut Regs,

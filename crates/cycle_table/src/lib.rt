@@ -18,6 +18,7 @@ use operands::{one_cycles, two_cycles};
 ///
 /// `reps` is how many times it is done, 1 to 16, and counts where it stands behind an extension word with register
 /// operands. `waits` is the sum of all waits for memory.
+#[inline(always)]
 #[tactic(auto, unfolding(crate::specs::Cycles::cycles_of))]
 pub fn cycles(d: &Decoded, reps: u32, waits: u32) -> u32
     requires instruction { IsInstruction d.now }
@@ -32,6 +33,7 @@ pub fn cycles(d: &Decoded, reps: u32, waits: u32) -> u32
 }
 
 /// The cycles of an instruction without waits.
+#[inline(always)]
 #[tactic(auto, unfolding(crate::specs::Cycles::instruction_cycles))]
 fn instruction_cycles(d: &Decoded, reps: u32) -> u32
     requires instruction { IsInstruction d.now }

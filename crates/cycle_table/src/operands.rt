@@ -4,6 +4,7 @@ ghost use Rattle.cycle_table.specs.Cycles.{change_cost as change_cost_of, destin
 use cpux_decode::{Op1, Op2, PC, Place, Size};
 
 /// The cycles of an operation of two operands.
+#[inline(always)]
 #[tactic(auto, unfolding(crate::specs::Cycles::two_cycles))]
 pub fn two_cycles(op: Op2, size: Size, from: Place, to: Place, long: bool, reps: u32) -> u32
     requires low { 1 ≤ reps }
