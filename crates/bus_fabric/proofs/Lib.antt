@@ -3,4 +3,5 @@ pub mod Kept
 pub mod ListedAccesses
 pub mod NothingNoted
 pub mod Places
+pub mod StillClocks
 pub mod Writes

@@ -7,6 +7,7 @@ ghost use Rattle.chip_words.specs.Interrupts.{units_lines};
 ghost use Rattle.chip_words.specs.Sizes.{IsByteOrWord, span};
 ghost use Rattle.chip_words.specs.Units.{units_cause, units_clocked, units_driven, units_touched, units_written, word_of};
 ghost use Rattle.port_unit.specs.Pins.{pins_of};
+ghost use Rattle.timer_unit.specs.Edges.{some_counts};
 
 use crate::fabric::Fabric;
 use chip_words::{
@@ -76,8 +77,27 @@ impl Fabric {
         self.ports.drive(port, bit, level, self.sys.locked());
     }
 
-    /// The clock edges of a tick, each of which is there or isn't.
+    /// The clock edges of a tick, each of which is there or isn't. Mostly nobody counts one.
+    #[inline]
     pub fn clock(&mut self, smclk: bool, aclk: bool)
+        ensures units { ChangesUnits (units_clocked smclk aclk) self.old self.new }
+    {
+        if self.counts(smclk, aclk) {
+            self.count(smclk, aclk);
+        }
+    }
+
+    /// Says whether the watchdog or a timer counts a clock edge of a tick.
+    #[inline]
+    pub fn counts(&self, smclk: bool, aclk: bool) -> bool
+        ensures { result ≡ some_counts (units_of self.now).timers smclk aclk }
+    {
+        self.timers.counts(smclk, aclk)
+    }
+
+    /// The clock edges of a tick of which one is counted.
+    #[inline(never)]
+    fn count(&mut self, smclk: bool, aclk: bool)
         ensures units { ChangesUnits (units_clocked smclk aclk) self.old self.new }
     {
         let fired = self.timers.tick(smclk, aclk);

@@ -32,7 +32,7 @@ triggers_nothing : (number : ℕ) (timer : Timer) (smclk aclk : Bool) → counts
 unfolding moves
 triggers_nothing number timer smclk aclk none = rw none refl
 
-pub still_stays : (timers : Timers) (smclk aclk : Bool) → some_counts timers smclk aclk ≡ false → timers ≡ timers_ticked timers smclk aclk
+pub still_stays : (timers : Timers) (smclk aclk : Bool) → some_counts timers smclk aclk ≡ false → timers_ticked timers smclk aclk ≡ timers
 unfolding timers_ticked watchdog_ticked
 still_stays timers smclk aclk none =
     let is = still timers smclk aclk none in
@@ -43,10 +43,10 @@ still_stays timers smclk aclk none =
       timer_stays timers.tb0 smclk aclk is.tb0,
     ) refl
 
-abbrev nothing : Fired
-nothing = record { interval = false; reset = false; triggers = 0 }
+abbrev pub nothing_fired : Fired
+nothing_fired = record { interval = false; reset = false; triggers = 0 }
 
-pub still_fires_nothing : (timers : Timers) (smclk aclk : Bool) → some_counts timers smclk aclk ≡ false → nothing ≡ fired timers smclk aclk
+pub still_fires_nothing : (timers : Timers) (smclk aclk : Bool) → some_counts timers smclk aclk ≡ false → fired timers smclk aclk ≡ nothing_fired
 unfolding fired
 still_fires_nothing timers smclk aclk none =
     let is = still timers smclk aclk none in

@@ -110,27 +110,10 @@ impl Timers {
         None
     }
 
-    /// Takes the edges that SMCLK and ACLK have in a tick.
+    /// Says whether the watchdog or a timer counts an edge of a tick. Mostly none does, and then the tick changes nothing
+    /// here.
     #[inline]
-    #[tactic(auto, using(crate::proofs::Still::still_fires_nothing, crate::proofs::Still::still_stays))]
-    pub fn tick(&mut self, smclk: bool, aclk: bool) -> Fired
-        ensures fired { result ≡ fired self.old smclk aclk }
-        ensures timers { self.new ≡ timers_ticked self.old smclk aclk }
-    {
-        if self.counts(smclk, aclk) {
-            self.count(smclk, aclk)
-        } else {
-            Fired {
-                interval: false,
-                reset: false,
-                triggers: 0,
-            }
-        }
-    }
-
-    /// Says whether the watchdog or a timer counts an edge of a tick. Mostly none does.
-    #[inline]
-    fn counts(&self, smclk: bool, aclk: bool) -> bool
+    pub fn counts(&self, smclk: bool, aclk: bool) -> bool
         ensures { result ≡ some_counts self.now smclk aclk }
     {
         self.watchdog.counts(smclk, aclk)
@@ -139,9 +122,9 @@ impl Timers {
             || self.tb0.counts(smclk, aclk)
     }
 
-    /// Takes the edges of a tick in which one of them is counted.
+    /// Takes the edges that SMCLK and ACLK have in a tick.
     #[tactic(auto, unfolding(chip_words::specs::Timers::fired, chip_words::specs::Timers::timers_ticked, chip_words::specs::Watchdog::watchdog_ticked))]
-    fn count(&mut self, smclk: bool, aclk: bool) -> Fired
+    pub fn tick(&mut self, smclk: bool, aclk: bool) -> Fired
         ensures fired { result ≡ fired self.old smclk aclk }
         ensures timers { self.new ≡ timers_ticked self.old smclk aclk }
     {
