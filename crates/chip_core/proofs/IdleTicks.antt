@@ -31,13 +31,13 @@ not_set : (test : Bool) → not test ≡ true → test ≡ false
 not_set false h = refl
 not_set true h = grind (arith, h)
 
-record IsCalm (chip : State) : Type 0 where
-  booted : chip.boot ≡ None
+pub record IsCalm (chip : State) : Type 0 where
+  pub booted : chip.boot ≡ None
   first_tick : chip.second_tick ≡ false
   quiet : are_quiet (((chip.bus).units).dma).channels ≡ true
   cause : taken_cause chip ≡ None
 
-calm : (chip : State) → is_undisturbed chip ≡ true → IsCalm chip
+pub calm : (chip : State) → is_undisturbed chip ≡ true → IsCalm chip
 unfolding is_quiet
 calm chip h =
     let (rest, cause) = and_parts _ _ h in
@@ -74,7 +74,7 @@ none_rests (channel ∷ more) quiet =
 
 -- The turn.
 
-abbrev with_busy : ℕ → State → State
+abbrev pub with_busy : ℕ → State → State
 with_busy left chip = record chip { busy = left }
 
 owner_is : (chip : State) → IsCalm chip → owner_of chip ≡ Processor
@@ -86,25 +86,25 @@ unfolding passed
 rests_stay chip is = ap (λ channels. with_dma (λ dma. record dma { channels = channels }) chip) (none_rests _ is.quiet)
 
 -- a processor that is busy
-abbrev IsBusy : State → Type 0
+abbrev pub IsBusy : State → Type 0
 IsBusy chip = nat_lt 0 chip.busy ≡ true
 
-counts_down : (chip : State) → IsBusy chip → processor_turn chip ≡ without_step (with_busy (chip.busy - 1) chip)
+pub counts_down : (chip : State) → IsBusy chip → processor_turn chip ≡ without_step (with_busy (chip.busy - 1) chip)
 unfolding processor_turn
 counts_down chip busy = rw busy refl
 
 -- one that isn't, and makes no step
-record IsStepless (chip : State) : Type 0 where
+pub record IsStepless (chip : State) : Type 0 where
   idle : nat_lt 0 chip.busy ≡ false
   pending : chip.pending ≡ false
   why : ((chip.halted || chip.dead) || (is_off chip && is_none (accepted_by chip))) ≡ true
 
-stepless : (chip : State) → nat_lt 0 chip.busy ≡ false → makes_no_step chip ≡ true → IsStepless chip
+pub stepless : (chip : State) → nat_lt 0 chip.busy ≡ false → makes_no_step chip ≡ true → IsStepless chip
 stepless chip idle h =
     let (pending, why) = and_parts _ _ h in
     record { idle = idle; pending = not_set chip.pending pending; why = why }
 
-stays : (chip : State) → IsStepless chip → processor_turn chip ≡ without_step chip
+pub stays : (chip : State) → IsStepless chip → processor_turn chip ≡ without_step chip
 unfolding processor_turn
 stays chip is =
     elim (cases_Bool (chip.halted || chip.dead)) [
@@ -123,8 +123,8 @@ no_reset left chip is = rw (is.cause) refl
 abbrev with_turn : State → Turn → Stages
 with_turn chip turn = record { ready = chip; owner = Processor; turn = turn; boot = None; after = reset turn.chip }
 
-abbrev waited : ℕ → State → Stages
-waited left chip = record {
+abbrev pub stages_of_wait : ℕ → State → Stages
+stages_of_wait left chip = record {
   ready = chip;
   owner = Processor;
   turn = without_step (with_busy left chip);
@@ -132,16 +132,19 @@ waited left chip = record {
   after = with_busy left chip;
 }
 
-turn_is : (left : ℕ) (chip : State) → IsCalm chip → processor_turn chip ≡ without_step (with_busy left chip) → owned Processor chip ≡ without_step (with_busy left chip)
+owned_is : (chip : State) → IsCalm chip → owned Processor chip ≡ processor_turn chip
 unfolding owned
-turn_is left chip is turn = ap processor_turn (rests_stay chip is) ∙ turn
+owned_is chip is = ap processor_turn (rests_stay chip is)
 
-stages_are : (left : ℕ) (chip : State) → IsCalm chip → processor_turn chip ≡ without_step (with_busy left chip) → stages_from On chip ≡ waited left chip
+turn_stages : (chip : State) → IsCalm chip → stages_from On chip ≡ with_turn chip (processor_turn chip)
 unfolding step_owned
+turn_stages chip is = ap (λ owner. stages_by On chip owner) (owner_is chip is) ∙ ap (with_turn chip) (owned_is chip is)
+
+pub stages_are : (left : ℕ) (chip : State) → IsCalm chip → processor_turn chip ≡ without_step (with_busy left chip) → stages_from On chip ≡ stages_of_wait left chip
 stages_are left chip is turn =
-    ap (λ owner. stages_by On chip owner) (owner_is chip is)
-    ∙ ap (with_turn chip) (turn_is left chip is turn)
-    ∙ ap (λ after. record (waited left chip) { after = after }) (no_reset left chip is)
+    turn_stages chip is
+    ∙ ap (with_turn chip) turn
+    ∙ ap (λ after. record (stages_of_wait left chip) { after = after }) (no_reset left chip is)
 
 -- What they show, and what they give away.
 
@@ -149,10 +152,10 @@ not_since : (halted : Bool) (at : ℕ) → (if halted && not halted then Some at
 not_since true at = refl
 not_since false at = refl
 
-shows_nothing : (left : ℕ) (chip : State) → IsCalm chip → stage_lines On (waited left chip) ≡ []
+pub shows_nothing : (left : ℕ) (chip : State) → IsCalm chip → stage_lines On (stages_of_wait left chip) ≡ []
 shows_nothing left chip is = rw (is.cause, not_since chip.halted (slice_index chip.registers PC)) refl
 
-gives_nothing : (left : ℕ) (chip : State) → stages_items On (waited left chip) ≡ []
+pub gives_nothing : (left : ℕ) (chip : State) → stages_items On (stages_of_wait left chip) ≡ []
 unfolding is_private
 gives_nothing left chip = left_and_not (is_private chip) chip.powered _
 
@@ -196,3 +199,20 @@ stepless_lines lines chip undisturbed rested stands = (stepless_idle chip undist
 
 pub stepless_items : (items : List Item) (chip : State) → is_undisturbed chip ≡ true → nat_lt 0 chip.busy ≡ false → makes_no_step chip ≡ true → items ≡ [] → items ≡ stages_items On (stages_from On chip)
 stepless_items items chip undisturbed rested stands none = none ∙ (stepless_idle chip undisturbed rested stands).items
+
+-- The turn of a chip that nothing disturbs is the processor's.
+
+owner_owns : (chip : State) → is_undisturbed chip ≡ true → processor_turn chip ≡ owned (owner_of chip) chip
+owner_owns chip undisturbed =
+    let is = calm chip undisturbed in
+    sym (ap (λ owner. owned owner chip) (owner_is chip is) ∙ owned_is chip is)
+
+pub processor_owns : (chip : State) → is_undisturbed chip ≡ true → (processor_turn chip).chip ≡ (owned (owner_of chip) chip).chip
+processor_owns chip undisturbed = ap (λ (turn : Turn). turn.chip) (owner_owns chip undisturbed)
+
+pub processor_steps : (chip : State) → is_undisturbed chip ≡ true → (processor_turn chip).step ≡ (owned (owner_of chip) chip).step
+processor_steps chip undisturbed = ap (λ (turn : Turn). turn.step) (owner_owns chip undisturbed)
+
+pub boot_is_done : (chip : State) → is_undisturbed chip ≡ true → None ≡ step_owned (owner_of chip) chip
+unfolding step_owned
+boot_is_done chip undisturbed = sym (ap (λ owner. step_owned owner chip) (owner_is chip (calm chip undisturbed)))

@@ -21,7 +21,7 @@ no_line : (port : ℕ) (pins : Pins) → port_line port pins pins ≡ []
 unfolding port_line
 no_line port pins = rw (all_same (levels_of pins port)) refl
 
-unchanged : (pins : Pins) → pin_lines pins pins ≡ []
+pub unchanged : (pins : Pins) → pin_lines pins pins ≡ []
 unchanged pins = rw (no_line 1 pins, no_line 2 pins, no_line 3 pins, no_line 4 pins) refl
 
 pub no_lines : (items : List TraceItem) (before now : Pins) → before ≡ now → items ≡ items ++ pin_lines before now

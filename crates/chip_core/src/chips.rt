@@ -6,7 +6,7 @@ ghost use Rattle.stimulus.specs.Events.{IsAct};
 ghost use Rattle.chip_words.specs.Bits.{has_bit};
 ghost use Rattle.chip_words.specs.Causes.{is_of_bor as is_of_bor_cause};
 ghost use Rattle.chip_words.specs.Registers.{SR as STATUS};
-ghost use Rattle.chip_core.specs.Idle.{is_undisturbed};
+ghost use Rattle.chip_core.specs.Idle.{is_plain, is_quiet, is_undisturbed, waited};
 ghost use Rattle.chip_core.specs.FirstState.{first_state};
 ghost use Rattle.chip_core.specs.Items.{IsItem, items_of, stages_items};
 ghost use Rattle.chip_core.specs.Lines.{event_lines, halted_since, lines_of, lines_with_power, power_lines, stage_lines, stimulus_lines};
@@ -117,7 +117,9 @@ impl Chip {
     }
 
     /// Does the next tick under a bench, and puts its lines and its items in place of those in `lines` and `items`.
-    #[tactic(auto, unfolding(crate::specs::Tick::ticked, crate::specs::Tick::moments, crate::specs::Lines::lines_of, crate::specs::Items::items_of))]
+    ///
+    /// Many ticks are those of a processor that is busy with the cycles of its instruction, or sleeps: they come first.
+    #[tactic(auto, using(crate::proofs::QuietTicks::quiet_chip, crate::proofs::QuietTicks::quiet_lines, crate::proofs::QuietTicks::quiet_items))]
     pub fn tick(&mut self, bench: &Bench, lines: &mut Lines, items: &mut Items)
         requires { (self.old).tick < 10000000 }
         ensures chip { self.new ≡ ticked bench.now self.old }
@@ -128,6 +130,63 @@ impl Chip {
     {
         lines.clear();
         items.clear();
+        if self.is_quiet(bench) {
+            self.wait();
+        } else {
+            self.tick_whole(bench, lines, items);
+        }
+    }
+
+    /// Says whether the next tick does nothing but that the processor waits. What fails most often is asked first, and
+    /// what takes longest last.
+    #[inline]
+    fn is_quiet(&self, bench: &Bench) -> bool
+        ensures { result ≡ is_quiet bench.now self.now }
+    {
+        if self.busy == 0 && !self.may_stand() {
+            return false;
+        }
+        !self.fabric.counts(self.has_smclk(), self.has_aclk())
+            && self.is_undisturbed()
+            && self.is_plain(bench)
+            && (self.busy > 0 || self.makes_no_step())
+    }
+
+    /// Says whether power stays on in the next tick, and the bench has no event for it.
+    #[inline]
+    fn is_plain(&self, bench: &Bench) -> bool
+        ensures { result ≡ is_plain bench.now self.now }
+    {
+        let mut done = self.events_done;
+        self.powered
+            && matches!(bench.power(self.tick), Power::On)
+            && bench.next_events(self.tick, &mut done).is_empty()
+    }
+
+    /// Does a tick in which the processor waits, and nothing else happens.
+    #[inline]
+    fn wait(&mut self)
+        requires { (self.old).tick < 10000000 }
+        ensures { self.new ≡ waited self.old }
+    {
+        self.fabric.end_tick();
+        self.busy = self.busy.saturating_sub(1);
+        self.tick += 1;
+    }
+
+    /// Does the next tick with all its stages, where no line and no item stands yet.
+    #[inline(never)]
+    #[tactic(auto, unfolding(crate::specs::Tick::ticked, crate::specs::Tick::moments, crate::specs::Lines::lines_of, crate::specs::Items::items_of))]
+    fn tick_whole(&mut self, bench: &Bench, lines: &mut Lines, items: &mut Items)
+        requires tick { (self.old).tick < 10000000 }
+        requires no_line { lines.old.items ≡ [] }
+        requires no_item { items.old.items ≡ [] }
+        ensures chip { self.new ≡ ticked bench.now self.old }
+        ensures lines { lines.new.items ≡ lines_of bench.now self.old }
+        ensures items { items.new.items ≡ items_of bench.now self.old }
+        ensures printable { All IsPrintable lines.new.items }
+        ensures given { All IsItem items.new.items }
+    {
         let next = self.tick + 1;
         let pins = self.pins();
         let power = bench.power(self.tick);
@@ -192,7 +251,7 @@ impl Chip {
 
     /// The stages behind the clock edges, in a tick with power.
     ///
-    /// Most ticks are those of a processor that is busy with the cycles of its instruction, or sleeps: they come first.
+    /// Ticks in which the processor waits come first here too: those in which a timer counts.
     fn do_turn(&mut self, lines: &mut Lines, items: &mut Items)
         requires room { array_vec_len lines.old ≤ 9 }
         requires printable { All IsPrintable lines.old.items }
@@ -215,8 +274,7 @@ impl Chip {
         }
         let start = self.start();
         let was_halted = self.halted;
-        let owner = self.owner();
-        let made = self.own(owner);
+        let made = self.own_bus();
         self.note_step(Power::On, &start, made.step, items);
         self.note_boot(Power::On, &start, made.boot, items);
         self.end_stages(was_halted, made.boot, lines);
@@ -224,7 +282,8 @@ impl Chip {
     }
 
     /// Says whether neither a boot, nor DMA, nor a reset is due.
-    fn is_undisturbed(&self) -> bool
+    #[inline]
+    pub(crate) fn is_undisturbed(&self) -> bool
         ensures { result ≡ is_undisturbed self.now }
     {
         self.boot.is_none()

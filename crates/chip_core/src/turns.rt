@@ -2,7 +2,7 @@
 
 ghost use Rattle.std.specs.Prelude.{◌≡◌, ◌<◌, IfSome, Some};
 ghost use Rattle.chip_words.specs.Causes.{least_cause, lesser_cause};
-ghost use Rattle.chip_core.specs.Idle.{makes_no_step};
+ghost use Rattle.chip_core.specs.Idle.{makes_no_step, may_stand};
 ghost use Rattle.chip_core.specs.Steps.{HasStep, IsStepOf};
 ghost use Rattle.chip_core.specs.Owners.{IsChannel};
 ghost use Rattle.chip_core.specs.Turns.{accepted_by, entered, free_turn, instructed, instruction_ended, is_off as is_off_state, owned, owner_of, processor_turn, reserved_cause, rested_by, step_owned, takes_interrupts as takes_interrupts_state, transfer_turn};
@@ -65,6 +65,25 @@ impl Chip {
             Owner::Processor => made.step = self.turn(),
         }
         made
+    }
+
+    /// The turn of the owner of the bus, whoever it is. Mostly nothing else is due and it is the processor.
+    #[inline]
+    #[tactic(auto, using(crate::proofs::IdleTicks::processor_owns, crate::proofs::IdleTicks::processor_steps, crate::proofs::IdleTicks::boot_is_done))]
+    pub(crate) fn own_bus(&mut self) -> Made
+        ensures chip { self.new ≡ (owned (owner_of self.old) self.old).chip }
+        ensures step { result.step ≡ (owned (owner_of self.old) self.old).step }
+        ensures boot { result.boot ≡ step_owned (owner_of self.old) self.old }
+        ensures made { HasStep result.step self.new }
+    {
+        if self.is_undisturbed() {
+            return Made {
+                step: self.turn(),
+                boot: None,
+            };
+        }
+        let owner = self.owner();
+        self.own(owner)
     }
 
     /// Lowers the rests of the channels of DMA, in a tick that DMA doesn't own.
@@ -134,6 +153,14 @@ impl Chip {
         ensures { result ≡ makes_no_step self.now }
     {
         !self.pending && (self.halted || self.dead || (self.is_off() && self.accepted().is_none()))
+    }
+
+    /// Says whether the processor was halted, is dead, or is off: else, where it isn't busy, it makes a step.
+    #[inline]
+    pub(crate) fn may_stand(&self) -> bool
+        ensures { result ≡ may_stand self.now }
+    {
+        self.halted || self.dead || self.is_off()
     }
 
     /// The vector of the interrupt that is accepted. The lines are asked for only where one of them may be.
