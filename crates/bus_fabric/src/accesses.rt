@@ -71,6 +71,7 @@ impl Fabric {
     ghost use Rattle.bus_fabric.specs.Fabric.{Accesses, Changes, ListsOne, bus_part_of, units_of};
 
     /// An access to a register of the peripherals.
+    #[inline(never)]
     #[tactic(auto, unfolding(chip_words::specs::Units::periph), using(crate::proofs::Kept::kept_by_a_read))]
     fn access_register(&mut self, kind: Kind, at: u32, size: Size, value: u32) -> u32
         requires width { IsByteOrWord size }
@@ -90,6 +91,7 @@ impl Fabric {
     }
 
     /// An access to bytes of memory.
+    #[inline(always)]
     fn access_memory(&mut self, kind: Kind, at: u32, size: Size, value: u32) -> u32
         requires place { at < MAIN_END }
         requires even { aligned_at size at ≡ at }
@@ -108,6 +110,7 @@ impl Fabric {
     }
 
     /// An access that has its right, by the region of its address, which is even for a word.
+    #[inline(always)]
     fn access_region(&mut self, kind: Kind, at: u32, size: Size, value: u32) -> u32
         requires place { at < 0x100000 }
         requires even { aligned_at size at ≡ at }
@@ -125,6 +128,7 @@ impl Fabric {
     }
 
     /// The right of an access: the encapsulation is asked first, and the segments judge the processor and DMA.
+    #[inline(always)]
     #[tactic(auto, unfolding(chip_words::specs::Right::right_of))]
     fn right(&self, who: Agent, kind: Kind, at: u32) -> Right
         requires place { at < 0x100000 }
@@ -150,6 +154,7 @@ impl Fabric {
     }
 
     /// An access by its right.
+    #[inline(always)]
     fn access_by_right(
         &mut self,
         right: Right,
@@ -177,6 +182,7 @@ impl Fabric {
     }
 
     /// An access by the rule on first words, and then by its right.
+    #[inline(always)]
     fn access_allowed(&mut self, who: Agent, kind: Kind, at: u32, size: Size, value: u32) -> u32
         requires place { at < 0x100000 }
         requires even { aligned_at size at ≡ at }

@@ -22,7 +22,8 @@ pub const MAIN_START: u32 = 0x04400;
 /// The address behind main FRAM, and so behind all memory.
 pub const MAIN_END: u32 = 0x14000;
 
-/// The row of the memory map that holds an address.
+/// The row of the memory map that holds an address. Main FRAM is asked for first, which most accesses reach.
+#[inline]
 #[tactic(auto, unfolding(chip_words::specs::Map::region_at))]
 pub fn region_of(at: u32) -> Region
     ensures region { result ≡ region_at at }
@@ -30,12 +31,14 @@ pub fn region_of(at: u32) -> Region
     // All memory lies below its end.
     ensures memory { IsTrue (has_bytes result) → at < MAIN_END }
 {
+    if (MAIN_START..MAIN_END).contains(&at) {
+        return Region::Main;
+    }
     match at {
         0x00000..0x01000 => Region::Periph,
         INFO_START..INFO_END => Region::Info,
         INFO_END..0x01B00 => Region::Descriptor,
         SRAM_START..SRAM_END => Region::Sram,
-        MAIN_START..MAIN_END => Region::Main,
         _ => Region::Vacant,
     }
 }
