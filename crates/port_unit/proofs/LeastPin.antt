@@ -1,10 +1,11 @@
 -- The least pin whose bit is set is the number of zeros below a byte's first digit 1.
-use Rattle.std.proofs.Common.{◌≡◌, ℕ, zero, suc, ◌+◌, ◌/◌, ◌%◌, ◌^◌, ◌<◌, ◌≤◌, Bool, true, false, List, [], ◌∷◌, Some, IfSome, refl, ap, ◌∙◌, arith}
+use Rattle.std.proofs.Common.{◌≡◌, ℕ, zero, suc, ◌+◌, ◌/◌, ◌%◌, ◌^◌, ◌<◌, ◌≤◌, Bool, true, false, List, [], ◌∷◌, Some, None, IfSome, ◌==◌, refl, ap, ◌∙◌, arith}
 use Rattle.std.proofs.lemmas.Nat.{shr-shr}
-use Rattle.std.proofs.Math.Nat.{div-one}
+use Rattle.std.proofs.Math.Nat.{div-one, zero-div}
 use lib.Count.{count_trailing_zeros}
+use Rattle.std.specs.Prelude.{bit_and}
 use Rattle.chip_words.specs.Bits.{has_bit}
-use Rattle.chip_words.specs.Ports.{least_pin, pins}
+use Rattle.chip_words.specs.Ports.{PortPair, HIGH_PORT, LOW_PORT, least_pin, pins, waiting_pin}
 
 -- so many numbers, from one on
 abbrev numbers_from : ℕ → ℕ → List ℕ
@@ -43,3 +44,14 @@ least_pin_from-below byte n (suc k) = by_bit (least_pin_from-below byte (n + 1) 
 -- each pin is below 8
 pub least_pin-below : (byte : ℕ) → IfSome (least_pin pins byte) (λ pin. pin < 8)
 least_pin-below byte = least_pin_from-below byte 0 8
+
+-- where no flag meets its enable, no pin waits
+none_from : (n k : ℕ) → least_pin (numbers_from n k) 0 ≡ None
+none_from n zero = refl
+none_from n (suc k) = rw (no_bit n, none_from (n + 1) k) refl
+  where
+    no_bit : (k : ℕ) → has_bit 0 k ≡ false
+    no_bit k = ap (λ n. n % 2 == 1) (zero-div (2 ^ k))
+
+pub none_of_either : (pair : PortPair) → bit_and pair.ifg pair.ie ≡ 0 → (waiting_pin pair LOW_PORT ≡ None) × (waiting_pin pair HIGH_PORT ≡ None)
+none_of_either pair none = (rw none (none_from 0 8), rw none (none_from 0 8))

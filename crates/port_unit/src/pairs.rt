@@ -1,4 +1,4 @@
-ghost use Rattle.std.specs.Prelude.{◌≡◌, ◌+◌, ◌<◌, ◌≤◌, ◌-◌, ◌%◌, ◌⊎◌, IfSome};
+ghost use Rattle.std.specs.Prelude.{◌≡◌, ◌==◌, ◌+◌, ◌<◌, ◌≤◌, ◌-◌, ◌%◌, ◌⊎◌, IfSome, bit_and};
 ghost use Rattle.chip_words.specs.Bits.{has_bit};
 ghost use Rattle.chip_words.specs.Ports.{PortPair as PairRegisters, inputs, is_edge, least_pin, no_pair, pair_at_reset, pair_driven, pair_touched, pair_with_level, pair_word, pair_written, pins, vector_number, waiting_pin, with_pair_word, without_flag};
 ghost use Rattle.chip_words.specs.Sizes.{IsByteOrWord, span};
@@ -219,6 +219,14 @@ impl PortPair {
         if let Some(pin) = self.waiting(place) {
             self.ifg &= !(1 << (place + pin));
         }
+    }
+
+    /// No flag meets its enable, so that no pin of either port waits. Mostly it is so.
+    #[inline]
+    pub fn is_silent(&self) -> bool
+        ensures { result ≡ (bit_and (self.now).ifg (self.now).ie == 0) }
+    {
+        self.ifg & self.ie == 0
     }
 
     /// The least pin, 0 to 7, whose flag and enable are set, of the port whose pins begin at a place.

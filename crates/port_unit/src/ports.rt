@@ -120,8 +120,23 @@ impl Ports {
     }
 
     /// The interrupt lines of this unit that stand: bit i is line i.
-    #[tactic(auto, unfolding(chip_words::specs::Ports::ports_lines))]
+    #[inline]
+    #[tactic(auto, using(crate::proofs::LeastPin::none_of_either), unfolding(chip_words::specs::Ports::ports_lines))]
     pub fn lines(&self) -> u16
+        ensures lines { result ≡ ports_lines self.now }
+        ensures within { result < 2 ^ (LAST_LINE + 1) }
+    {
+        if self.first.is_silent() && self.second.is_silent() {
+            0
+        } else {
+            self.waiting_lines()
+        }
+    }
+
+    /// The lines by the waiting pins of each port. It stands apart so that its callers hold the test alone.
+    #[inline(never)]
+    #[tactic(auto, unfolding(chip_words::specs::Ports::ports_lines))]
+    fn waiting_lines(&self) -> u16
         ensures lines { result ≡ ports_lines self.now }
         ensures within { result < 2 ^ (LAST_LINE + 1) }
     {
