@@ -1,23 +1,15 @@
 -- Clock edges that nobody counts leave the units as they are.
-use Rattle.std.proofs.Common.{◌≡◌, ◌∙◌, ℕ, ◌^◌, ◌%◌, ◌==◌, Bool, false, List, [], ◌∷◌, map, refl, sym, ap}
-use Rattle.std.proofs.Math.Nat.{zero-div}
+use Rattle.std.proofs.Common.{◌≡◌, ◌∙◌, Bool, false, List, sym, ap}
 use Rattle.chip_words.specs.declared.fired.Fired.{Fired}
-use Rattle.chip_words.specs.Bits.{has_bit}
 use Rattle.chip_words.specs.BusPart.{BusPart}
 use Rattle.chip_words.specs.Channel.{Channel}
-use Rattle.chip_words.specs.Dma.{dma_fired, fired_by}
+use Rattle.chip_words.specs.Dma.{dma_fired}
 use Rattle.chip_words.specs.Sys.{sys_fired}
 use Rattle.chip_words.specs.Timers.{Timers, fired}
 use Rattle.chip_words.specs.Units.{Units, units_clocked}
 use Rattle.timer_unit.specs.Edges.{some_counts}
+use Rattle.dma_unit.proofs.NoTrigger.{none_fires}
 use Rattle.timer_unit.proofs.Still.{still_fires_nothing, still_stays}
-
-no_bit : (k : ℕ) → has_bit 0 k ≡ false
-no_bit k = ap (λ n. n % 2 == 1) (zero-div (2 ^ k))
-
-none_fires : (channels : List Channel) → map (fired_by 0) channels ≡ channels
-none_fires [] = refl
-none_fires (channel ∷ more) = rw (no_bit channel.trigger, none_fires more) refl
 
 -- the units behind clock edges, by what these leave of the timers and what the timers set off
 abbrev clocked_by : Timers → Fired → Units → Units

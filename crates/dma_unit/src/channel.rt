@@ -247,6 +247,7 @@ impl Channel {
     }
 
     /// DMAIE and DMAIFG are set.
+    #[inline]
     pub fn is_waiting(&self) -> bool
         ensures { result ≡ is_channel_waiting self.now }
     {
@@ -333,6 +334,7 @@ impl Channel {
     }
 
     /// Nothing waits, and it doesn't rest.
+    #[inline]
     pub fn is_quiet(&self) -> bool
         ensures { result ≡ is_channel_quiet self.now }
     {
@@ -372,6 +374,7 @@ impl Channel {
     }
 }
 
+#[inline]
 fn is_set(word: u16, bit: u32) -> bool
     requires { bit < 16 }
     ensures { result ≡ has_bit word bit }
