@@ -1,10 +1,11 @@
 -- A tick of which no edge is counted leaves the timers as they are, and sets nothing off.
-use Rattle.std.proofs.Common.{◌≡◌, ℕ, Bool, true, false, ◌||◌, refl, arith}
+use Rattle.std.proofs.Common.{◌≡◌, ℕ, Bool, true, false, ◌||◌, not, refl, arith}
 use Rattle.chip_words.specs.declared.fired.Fired.{Fired}
 use Rattle.chip_words.specs.Timer.{Timer, counts, moves, timer_ticked}
 use Rattle.chip_words.specs.Timers.{Timers, fired, timers_ticked, triggers_from}
-use Rattle.chip_words.specs.Watchdog.{counts as watchdog_counts, watchdog_ticked}
-use Rattle.timer_unit.specs.Edges.{some_counts}
+use Rattle.chip_words.specs.Bits.{has_bit}
+use Rattle.chip_words.specs.Watchdog.{WDTHOLD, counts as watchdog_counts, watchdog_ticked}
+use Rattle.timer_unit.specs.Edges.{is_stopped, some_counts, some_runs}
 
 -- neither of two
 neither : (a b : Bool) → (a || b) ≡ false → (a ≡ false) × (b ≡ false)
@@ -56,3 +57,15 @@ still_fires_nothing timers smclk aclk none =
       triggers_nothing _ timers.ta1 smclk aclk is.ta1,
       triggers_nothing _ timers.tb0 smclk aclk is.tb0,
     ) refl
+
+-- where nothing runs, nothing counts
+pub nothing_runs : (timers : Timers) (smclk aclk : Bool) → some_runs timers ≡ false → some_counts timers smclk aclk ≡ false
+nothing_runs timers smclk aclk none =
+    let held = not (has_bit (timers.watchdog).wdtctl WDTHOLD) in
+    let first = not (is_stopped timers.ta0) in
+    let second = not (is_stopped timers.ta1) in
+    let third = not (is_stopped timers.tb0) in
+    let (rest, no_third) = neither (held || first || second) third none in
+    let (rest, no_second) = neither (held || first) second rest in
+    let (no_watchdog, no_first) = neither held first rest in
+    rw (no_watchdog, no_first, no_second, no_third) refl

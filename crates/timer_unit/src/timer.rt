@@ -1,6 +1,8 @@
-ghost use Rattle.std.specs.Prelude.{◌≡◌, ◌↔◌, ◌+◌, ◌-◌, ◌*◌, ◌/◌, ◌^◌, ◌<◌, ◌≤◌, ◌==◌, IfSome, IsSome, Some, drop, length};
+ghost use Rattle.std.specs.Prelude.{false, ◌||◌, ◌≡◌, ◌↔◌, ◌+◌, ◌-◌, ◌*◌, ◌/◌, ◌^◌, ◌<◌, ◌≤◌, ◌==◌, IfSome, IsSome, Some, drop, is_some, length, true};
 ghost use Rattle.chip_words.specs.Sizes.{IsByteOrWord, span};
-ghost use Rattle.chip_words.specs.Timer.{Timer as TimerRegisters, CTL as CTL_DISTANCE, ID as ID_PLACE, continuous_step as continuous_step_of, counts, divisor, field_at, first_timer, is_compare_waiting, is_at, is_first_waiting, is_overflow_waiting, is_timer_waiting, least_waiting as least_waiting_from, moves, next_step, stepped, timer_entered, timer_iv, timer_ticked, timer_touched, timer_word, timer_written, up_down_step as up_down_step_of, up_step as up_step_of, waiting_number, with_flags, with_timer_word};
+ghost use Rattle.timer_unit.specs.Edges.{is_stopped};
+ghost use Rattle.timer_unit.specs.Silence.{AsksNothing};
+ghost use Rattle.chip_words.specs.Timer.{Timer as TimerRegisters, CTL as CTL_DISTANCE, ID as ID_PLACE, continuous_step as continuous_step_of, counts, divisor, field_at, first_timer, is_compare_waiting, is_at, is_first_waiting, is_overflow_waiting, is_timer_waiting, least_waiting as least_waiting_from, moves, next_step, stepped, timer_entered, timer_iv, timer_ticked, told_by, timer_touched, timer_word, timer_written, up_down_step as up_down_step_of, up_step as up_step_of, waiting_number, with_flags, with_timer_word};
 
 use chip_words::{Size, TimerStep, word_with_part};
 use std::marker::Model;
@@ -56,6 +58,9 @@ pub struct Timer<const REGISTERS: usize> {
     /// Clock edges since the last step.
     prescaler: u8,
     is_downward: bool,
+    /// Nothing here asks for an interrupt. Each tick of a processor that sleeps asks, and a flag is seldom set, so this is
+    /// kept and not searched for. False says nothing.
+    is_silent: bool,
 }
 
 impl<const REGISTERS: usize> Model for Timer<REGISTERS> {
@@ -71,7 +76,8 @@ impl<const REGISTERS: usize> Model for Timer<REGISTERS> {
       is_downward = t.is_downward;
     } };
 
-    ghost invariant = { λ t. (3 ≤ REGISTERS) × (REGISTERS ≤ 7) × (t.ex0 < 8) × (t.prescaler < 64) };
+    ghost invariant = { λ t. (3 ≤ REGISTERS) × (REGISTERS ≤ 7) × (t.ex0 < 8) × (t.prescaler < 64) ×
+        (t.is_silent ≡ true → AsksNothing t.ctl t.cctl) };
 }
 
 impl<const REGISTERS: usize> Timer<REGISTERS> {
@@ -89,6 +95,7 @@ impl<const REGISTERS: usize> Timer<REGISTERS> {
             ex0: 0,
             prescaler: 0,
             is_downward: false,
+            is_silent: true,
         }
     }
 
@@ -115,6 +122,7 @@ impl<const REGISTERS: usize> Timer<REGISTERS> {
         } else {
             let word = word_with_part(size, at, self.word(even), value);
             self.set_word(even, word);
+            self.note_silence();
         }
     }
 
@@ -145,15 +153,35 @@ impl<const REGISTERS: usize> Timer<REGISTERS> {
         ensures { self.new ≡ timer_touched self.old at }
     {
         if at == IV {
-            match self.waiting() {
-                Some(n) => self.cctl[n] &= !(1 << CCIFG),
-                None => {
-                    if self.is_overflow_waiting() {
-                        self.ctl &= !(1 << TAIFG);
-                    }
+            self.tell();
+            self.note_silence();
+        }
+    }
+
+    /// Clears the flag that IV tells.
+    fn tell(&mut self)
+        ensures { self.new ≡ told_by (waiting_number self.old) self.old }
+    {
+        self.is_silent = false;
+        match self.waiting() {
+            Some(n) => self.cctl[n] &= !(1 << CCIFG),
+            None => {
+                if self.is_overflow_waiting() {
+                    self.ctl &= !(1 << TAIFG);
                 }
             }
         }
+    }
+
+    /// Finds out whether nothing here asks for an interrupt.
+    #[inline(never)]
+    fn note_silence(&mut self)
+        ensures { self.new ≡ self.old }
+    {
+        let asks = is_waiting(self.cctl[0])
+            || self.waiting().is_some()
+            || self.is_overflow_waiting();
+        self.is_silent = !asks;
     }
 
     #[tactic(auto, unfolding(chip_words::specs::Timer::with_timer_word))]
@@ -166,6 +194,7 @@ impl<const REGISTERS: usize> Timer<REGISTERS> {
             EX0 => self.ex0 = (word % 8) as u8,
             _ => {
                 if let Some(n) = number_from(CCTL0, REGISTERS, at) {
+                    self.is_silent = false;
                     self.cctl[n] = word;
                 } else if let Some(n) = number_from(CCR0, REGISTERS, at) {
                     self.ccr[n] = word;
@@ -179,6 +208,7 @@ impl<const REGISTERS: usize> Timer<REGISTERS> {
     fn control(&mut self, word: u16)
         ensures { self.new ≡ with_timer_word self.old CTL_DISTANCE word }
     {
+        self.is_silent = false;
         self.ctl = word & KEPT_OF_CTL;
         if (word >> TACLR) & 1 == 1 {
             self.r = 0;
@@ -220,17 +250,30 @@ impl<const REGISTERS: usize> Timer<REGISTERS> {
     }
 
     /// IV isn't 0.
+    #[inline]
+    #[tactic(auto, using(crate::proofs::CompareRegisters::asks_nothing))]
     pub fn is_waiting(&self) -> bool
         ensures { result ≡ is_timer_waiting self.now }
     {
-        self.waiting().is_some() || self.is_overflow_waiting()
+        !self.is_silent && (self.waiting().is_some() || self.is_overflow_waiting())
     }
 
     /// CCTL0 waits, which has an interrupt of its own.
+    #[inline]
+    #[tactic(auto, using(crate::proofs::CompareRegisters::asks_nothing))]
     pub fn is_first_waiting(&self) -> bool
         ensures { result ≡ is_first_waiting self.now }
     {
-        is_waiting(self.cctl[0])
+        !self.is_silent && is_waiting(self.cctl[0])
+    }
+
+    /// CCTL0 waits, or IV isn't 0.
+    #[inline]
+    #[tactic(auto, using(crate::proofs::CompareRegisters::asks_nothing))]
+    pub fn asks(&self) -> bool
+        ensures { result ≡ (is_first_waiting self.now || is_timer_waiting self.now) }
+    {
+        !self.is_silent && (self.is_first_waiting() || self.is_waiting())
     }
 
     /// The entry into the interrupt of CCTL0, which clears its flag.
@@ -238,10 +281,13 @@ impl<const REGISTERS: usize> Timer<REGISTERS> {
     pub fn entered(&mut self)
         ensures { self.new ≡ timer_entered self.old }
     {
+        self.is_silent = false;
         self.cctl[0] &= !(1 << CCIFG);
+        self.note_silence();
     }
 
     /// Takes the clock edges of a tick, and says whether they make a step that does something.
+    #[inline(always)]
     #[tactic(auto, unfolding(chip_words::specs::Timer::timer_ticked, chip_words::specs::Timer::moves))]
     pub fn tick(&mut self, smclk: bool, aclk: bool) -> bool
         ensures step { result ≡ moves self.old smclk aclk }
@@ -255,13 +301,7 @@ impl<const REGISTERS: usize> Timer<REGISTERS> {
             return false;
         }
         self.prescaler = 0;
-        match self.next_step() {
-            Some(step) => {
-                self.take(step);
-                true
-            }
-            None => false,
-        }
+        self.step()
     }
 
     /// R is equal to the CCR of a number, 0 to 2.
@@ -277,7 +317,7 @@ impl<const REGISTERS: usize> Timer<REGISTERS> {
     pub fn counts(&self, smclk: bool, aclk: bool) -> bool
         ensures { result ≡ counts self.now smclk aclk }
     {
-        if (self.ctl >> MC) & 3 == 0 {
+        if self.is_stopped() {
             return false;
         }
         match (self.ctl >> TASSEL) & 3 {
@@ -285,6 +325,14 @@ impl<const REGISTERS: usize> Timer<REGISTERS> {
             2 => smclk,
             _ => false,
         }
+    }
+
+    /// MC is 0.
+    #[inline]
+    pub fn is_stopped(&self) -> bool
+        ensures { result ≡ is_stopped self.now }
+    {
+        (self.ctl >> MC) & 3 == 0
     }
 
     /// So many edges make a step: 1 to 64.
@@ -309,17 +357,19 @@ impl<const REGISTERS: usize> Timer<REGISTERS> {
         }
     }
 
-    /// The step of the mode, if it does something.
-    fn next_step(&self) -> Option<TimerStep>
-        ensures { result ≡ next_step self.now }
+    /// Does the step of the mode, and says whether it does something.
+    fn step(&mut self) -> bool
+        ensures some { result ≡ is_some (next_step self.old) }
+        ensures timer { self.new ≡ stepped (next_step self.old) self.old }
     {
         let top = self.ccr[0];
         match (self.ctl >> MC) & 3 {
-            1 if top != 0 => Some(up_step(top, self.r, self.is_downward)),
-            2 => Some(continuous_step(self.r, self.is_downward)),
-            3 if top != 0 => Some(up_down_step(top, self.r, self.is_downward)),
-            _ => None,
+            1 if top != 0 => self.take(up_step(top, self.r, self.is_downward)),
+            2 => self.take(continuous_step(self.r, self.is_downward)),
+            3 if top != 0 => self.take(up_down_step(top, self.r, self.is_downward)),
+            _ => return false,
         }
+        true
     }
 
     /// Does a step, which sets the flag of each CCTL whose CCR is equal to R.
@@ -328,10 +378,14 @@ impl<const REGISTERS: usize> Timer<REGISTERS> {
     {
         self.r = step.r;
         self.is_downward = step.is_downward;
+        let is_flagged = set_flags(step.r, &self.ccr, &mut self.cctl);
         if step.overflows {
             self.ctl |= 1 << TAIFG;
         }
-        set_flags(step.r, &self.ccr, &mut self.cctl);
+        if is_flagged || step.overflows {
+            self.is_silent = false;
+            self.note_silence();
+        }
     }
 }
 
@@ -360,17 +414,21 @@ fn least_waiting(cctl: &[u16]) -> Option<usize>
     None
 }
 
-/// Sets the flag of each CCTL whose CCR is equal to R.
+/// Sets the flag of each CCTL whose CCR is equal to R, and says whether there is one.
 #[tactic(auto, using(crate::proofs::CompareRegisters::flags))]
-fn set_flags(r: u16, ccr: &[u16], cctl: &mut [u16])
+fn set_flags(r: u16, ccr: &[u16], cctl: &mut [u16]) -> bool
     requires { length ccr.now ≡ length cctl.old }
-    ensures { cctl.new ≡ with_flags r ccr.now cctl.old }
+    ensures flags { cctl.new ≡ with_flags r ccr.now cctl.old }
+    ensures none { result ≡ false → cctl.new ≡ cctl.old }
 {
+    let mut is_flagged = false;
     for n in 0..cctl.len() {
         if ccr[n] == r {
             cctl[n] |= 1 << CCIFG;
+            is_flagged = true;
         }
     }
+    is_flagged
 }
 
 /// The flag and the enable of a CCTL are set.

@@ -1,11 +1,11 @@
-ghost use Rattle.std.specs.Prelude.{◌≡◌, ◌^◌, ◌+◌, ◌*◌, ◌<◌, ◌≤◌, IfSome};
+ghost use Rattle.std.specs.Prelude.{false, ◌≡◌, ◌^◌, ◌+◌, ◌*◌, ◌<◌, ◌≤◌, IfSome};
 ghost use Rattle.chip_words.specs.Addresses.{register_address};
 ghost use Rattle.chip_words.specs.Bits.{bit_word, part_of};
 ghost use Rattle.chip_words.specs.InterruptLines.{TA1_LINE as LAST_LINE};
 ghost use Rattle.chip_words.specs.Sizes.{IsByteOrWord, span};
 ghost use Rattle.chip_words.specs.Timers.{Timers as TimerRegisters, fired, first_timers, timers_cause, timers_entered, timers_lines, timers_ticked, timers_touched, timers_word, timers_written, is_of_timer, triggers_from};
 ghost use Rattle.chip_words.specs.Timer.{timer_ticked};
-ghost use Rattle.timer_unit.specs.Edges.{some_counts};
+ghost use Rattle.timer_unit.specs.Edges.{some_counts, some_runs};
 
 use crate::timer::Timer;
 use crate::watchdog::Watchdog;
@@ -33,12 +33,17 @@ pub struct Timers {
     ta0: Timer<3>,
     ta1: Timer<3>,
     tb0: Timer<7>,
+    /// The watchdog or a timer may count. Each tick asks, and it changes by writes alone, so it is kept. True says nothing.
+    is_running: bool,
 }
 
 impl Model for Timers {
     ghost Value = { TimerRegisters };
 
     ghost view = { λ t. record { watchdog = t.watchdog; ta0 = t.ta0; ta1 = t.ta1; tb0 = t.tb0 } };
+
+    ghost invariant = { λ t. t.is_running ≡ false → some_runs
+        (record { watchdog = t.watchdog; ta0 = t.ta0; ta1 = t.ta1; tb0 = t.tb0 }) ≡ false };
 }
 
 impl Timers {
@@ -51,6 +56,7 @@ impl Timers {
             ta0: Timer::new(),
             ta1: Timer::new(),
             tb0: Timer::new(),
+            is_running: true,
         }
     }
 
@@ -58,6 +64,7 @@ impl Timers {
     pub fn reset(&mut self, bor: bool)
         ensures { self.new ≡ first_timers }
     {
+        self.is_running = true;
         self.watchdog = Watchdog::new();
         self.ta0 = Timer::new();
         self.ta1 = Timer::new();
@@ -72,6 +79,7 @@ impl Timers {
         ensures small { result < span size }
         ensures timers { self.new ≡ timers_touched self.old at }
     {
+        self.is_running = true;
         let even = at - at % 2;
         let word = if even == WDTCTL {
             self.watchdog.word()
@@ -84,6 +92,7 @@ impl Timers {
         } else {
             0
         };
+        self.note_running();
         part(size, at, word)
     }
 
@@ -96,6 +105,21 @@ impl Timers {
         ensures cause { result ≡ timers_cause at size value }
         ensures number { IfSome result (λ cause. cause < 65) }
     {
+        let cause = self.set_register(at, size, value);
+        self.note_running();
+        cause
+    }
+
+    /// Writes at an address of this unit, and leaves open whether something counts.
+    #[tactic(auto, unfolding(chip_words::specs::Timers::timers_written))]
+    fn set_register(&mut self, at: u32, size: Size, value: u32) -> Option<u8>
+        requires width { IsByteOrWord size }
+        requires fits { value < span size }
+        ensures timers { self.new ≡ timers_written self.old at size value }
+        ensures cause { result ≡ timers_cause at size value }
+        ensures number { IfSome result (λ cause. cause < 65) }
+    {
+        self.is_running = true;
         if at - at % 2 == WDTCTL {
             return self.watchdog.write(size, value);
         }
@@ -110,16 +134,28 @@ impl Timers {
         None
     }
 
+    /// Finds out whether the watchdog or a timer may count.
+    fn note_running(&mut self)
+        ensures { self.new ≡ self.old }
+    {
+        self.is_running = !self.watchdog.is_held()
+            || !self.ta0.is_stopped()
+            || !self.ta1.is_stopped()
+            || !self.tb0.is_stopped();
+    }
+
     /// Says whether the watchdog or a timer counts an edge of a tick. Mostly none does, and then the tick changes nothing
     /// here.
     #[inline]
+    #[tactic(auto, using(crate::proofs::Still::nothing_runs))]
     pub fn counts(&self, smclk: bool, aclk: bool) -> bool
         ensures { result ≡ some_counts self.now smclk aclk }
     {
-        self.watchdog.counts(smclk, aclk)
-            || self.ta0.counts(smclk, aclk)
-            || self.ta1.counts(smclk, aclk)
-            || self.tb0.counts(smclk, aclk)
+        self.is_running
+            && (self.watchdog.counts(smclk, aclk)
+                || self.ta0.counts(smclk, aclk)
+                || self.ta1.counts(smclk, aclk)
+                || self.tb0.counts(smclk, aclk))
     }
 
     /// Takes the edges that SMCLK and ACLK have in a tick.
@@ -128,6 +164,7 @@ impl Timers {
         ensures fired { result ≡ fired self.old smclk aclk }
         ensures timers { self.new ≡ timers_ticked self.old smclk aclk }
     {
+        self.is_running = true;
         let interval = self.watchdog.tick(smclk, aclk);
         let ta0 = triggers(TA0_TRIGGER, &mut self.ta0, smclk, aclk);
         let ta1 = triggers(TA1_TRIGGER, &mut self.ta1, smclk, aclk);
@@ -139,9 +176,23 @@ impl Timers {
         }
     }
 
-    /// The interrupt lines of this unit that stand: bit i is line i.
+    /// The interrupt lines of this unit that stand: bit i is line i. Mostly no timer asks for an interrupt.
+    #[inline]
     #[tactic(auto, unfolding(chip_words::specs::Timers::timers_lines))]
     pub fn lines(&self) -> u16
+        ensures lines { result ≡ timers_lines self.now }
+        ensures within { result < 2 ^ (LAST_LINE + 1) }
+    {
+        if !self.tb0.asks() && !self.ta0.asks() && !self.ta1.asks() {
+            return 0;
+        }
+        self.waiting_lines()
+    }
+
+    /// The lines by what waits in each timer.
+    #[inline(never)]
+    #[tactic(auto, unfolding(chip_words::specs::Timers::timers_lines))]
+    fn waiting_lines(&self) -> u16
         ensures lines { result ≡ timers_lines self.now }
         ensures within { result < 2 ^ (LAST_LINE + 1) }
     {
@@ -158,12 +209,14 @@ impl Timers {
     pub fn entered(&mut self, line: u8)
         ensures { self.new ≡ timers_entered line self.old }
     {
+        self.is_running = true;
         match line {
             TA0_CCR0_LINE => self.ta0.entered(),
             TA1_CCR0_LINE => self.ta1.entered(),
             TB0_CCR0_LINE => self.tb0.entered(),
             _ => {}
         }
+        self.note_running();
     }
 }
 
@@ -176,6 +229,7 @@ fn is_within(first: u32, at: u32) -> bool
 }
 
 /// Hands a timer the edges of a tick, and tells the triggers that it sets off.
+#[inline(always)]
 fn triggers<const REGISTERS: usize>(
     number: u8,
     timer: &mut Timer<REGISTERS>,
@@ -194,6 +248,7 @@ fn triggers<const REGISTERS: usize>(
 }
 
 /// The word of one bit alone, where it is set.
+#[inline]
 fn bit(number: u8, is_set: bool) -> u16
     requires { number < 16 }
     ensures { result ≡ bit_word number is_set }

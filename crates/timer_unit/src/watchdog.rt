@@ -1,6 +1,7 @@
 ghost use Rattle.std.specs.Prelude.{◌≡◌, ◌^◌, ◌<◌, ◌≤◌, IfSome};
 ghost use Rattle.chip_words.specs.Sizes.{IsByteOrWord, span};
-ghost use Rattle.chip_words.specs.Watchdog.{Watchdog as WatchdogRegisters, asks_for_reset, counts, ends_interval, first_watchdog, interval_of, watchdog_cause, watchdog_ticked, watchdog_word, watchdog_written};
+ghost use Rattle.chip_words.specs.Bits.{has_bit};
+ghost use Rattle.chip_words.specs.Watchdog.{Watchdog as WatchdogRegisters, WDTHOLD as WDTHOLD_BIT, asks_for_reset, counts, ends_interval, first_watchdog, interval_of, watchdog_cause, watchdog_ticked, watchdog_word, watchdog_written};
 
 use chip_words::{Size, WATCHDOG_PASSWORD};
 use std::marker::Model;
@@ -103,13 +104,20 @@ impl Watchdog {
     pub fn counts(&self, smclk: bool, aclk: bool) -> bool
         ensures { result ≡ counts self.now smclk aclk }
     {
-        let is_held = (self.wdtctl >> WDTHOLD) & 1 == 1;
         let has_edge = if (self.wdtctl >> 5) & 3 == 0 {
             smclk
         } else {
             aclk
         };
-        !is_held && has_edge
+        !self.is_held() && has_edge
+    }
+
+    /// WDTHOLD is set.
+    #[inline]
+    pub fn is_held(&self) -> bool
+        ensures { result ≡ has_bit (self.now).wdtctl WDTHOLD_BIT }
+    {
+        (self.wdtctl >> WDTHOLD) & 1 == 1
     }
 
     /// How many edges an interval has, by WDTIS.
