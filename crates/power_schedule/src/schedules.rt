@@ -50,6 +50,7 @@ impl Schedule {
     }
 
     /// What the supply does in a tick.
+    #[inline]
     pub fn at(&self, tick: u32) -> Power
         ensures power { result ≡ power_at self.now tick }
         ensures ordered { AreOrdered self.now }
@@ -68,6 +69,7 @@ fn count_begun(cuts: &[Cut], tick: u32) -> usize
 }
 
 /// What the supply does in a tick.
+#[inline]
 fn power_of(cuts: &[Cut], tick: u32) -> Power
     requires { AreOrdered cuts.now }
     ensures { result ≡ power_at cuts.now tick }

@@ -1,5 +1,5 @@
 -- The events of one tick, among events whose ticks don't fall.
-use Rattle.std.proofs.Common.{◌≡◌, ℕ, zero, suc, true, false, ◌==◌, nat_le, nat_lt, ◌-◌, ◌<◌, ◌≤◌, List, [], ◌∷◌, length, get_or, take, drop, refl, ap, arith}
+use Rattle.std.proofs.Common.{◌≡◌, ℕ, zero, suc, true, false, ◌==◌, nat_le, nat_lt, ◌-◌, ◌<◌, ◌≤◌, List, [], ◌∷◌, length, get_or, take, drop, refl, sym, ap, arith}
 use Rattle.std.proofs.lemmas.Bool.Decides.{nat_tests}
 use Rattle.std.specs.List.Sorted.{IsNonDecreasingBy, IsPartitionPoint}
 use Rattle.stimulus.specs.declared.events.Event.{Event}
@@ -82,3 +82,35 @@ start_found tick events count point = (λ k d l h. earlier _ _ (point.0 k d l h)
 -- and one for the first that comes behind it
 pub end_found : (tick : ℕ) (events : List Event) (count : ℕ) → IsPartitionPoint (λ (event : Event). nat_le event.tick tick ≡ true) (λ (event : Event). nat_le event.tick tick ≡ false) events count → IsEnd tick events count
 end_found tick events count point = (λ k d l h. at_most _ _ (point.0 k d l h), λ k d l h. above _ _ (point.1 k d l h))
+
+-- events of which the first ones come before the tick, and all others behind it, have none on it
+none_found :
+    (tick : ℕ) (events : List Event) (place : ℕ) →
+    ((k : ℕ) (d : Event) → k < place → k < length events → (get_or events k d).tick < tick) →
+    ((k : ℕ) (d : Event) → place ≤ k → k < length events → tick < (get_or events k d).tick) → on_tick tick events ≡ []
+unfolding on_tick
+none_found tick [] place before behind = refl
+none_found tick (e ∷ events) zero before behind =
+    let rest = none_found tick events 0 (λ k d l h. absurd (omega (arith, l))) (λ k d l h. behind (suc k) d (omega arith) (omega (arith, h))) in
+    rw (test_later e.tick tick (behind 0 e (omega arith) (omega arith))) rest
+none_found tick (e ∷ events) (suc place) before behind =
+    let rest = none_found tick events place (λ k d l h. before (suc k) d (omega (arith, l)) (omega (arith, h))) (λ k d l h. behind (suc k) d (omega (arith, l)) (omega (arith, h))) in
+    rw (test_earlier e.tick tick (before 0 e (omega arith) (omega arith))) rest
+
+-- so it is where the event before a place comes before the tick, and the one at it behind the tick
+pub none_is :
+    (tick : ℕ) (events : List Event) (place : ℕ) → IsNonDecreasingBy (λ (event : Event). event.tick) events →
+    ((d : Event) → 0 < place → (get_or events (place - 1) d).tick < tick) →
+    ((d : Event) → place < length events → tick < (get_or events place d).tick) → place ≤ length events → [] ≡ on_tick tick events
+none_is tick events place sorted before behind within =
+    sym (
+    none_found tick events place
+    (λ k d l h.
+    let below = sorted k (place - 1) d (omega (arith, l)) (omega (arith, l, within)) in
+    let last = before d (omega (arith, l)) in
+    omega arith)
+    (λ k d l h.
+    let above = sorted place k d (omega arith) (omega arith) in
+    let first = behind d (omega arith) in
+    omega arith)
+    )

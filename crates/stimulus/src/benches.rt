@@ -71,6 +71,7 @@ impl Bench {
     }
 
     /// What the supply does in a tick.
+    #[inline]
     pub fn power(&self, tick: u32) -> Power
         ensures power { result ≡ power_at self.now.cuts tick }
     {
@@ -86,8 +87,9 @@ impl Bench {
         events_on_tick(&self.events, tick, &mut 0)
     }
 
-    /// The events of a tick, in the order of the file, for who asks for one tick after another: nothing is searched where
-    /// `done` is what the call for the tick before left there. It may be any number.
+    /// The events of a tick, in the order of the file, for who asks for one tick after another: where `done` is what the
+    /// call for the tick before left there, the first of them isn't searched for. It may be any number.
+    #[inline]
     pub fn next_events(&self, tick: u32, done: &mut usize) -> &[Event]
         ensures events { result.now ≡ on_tick tick self.now.events }
         ensures few { length result.now ≤ most_on_tick }

@@ -24,6 +24,7 @@ pub struct Event {
 }
 
 /// Says whether there are so many events, and the last of them comes before a tick.
+#[inline]
 fn ends_before(events: &[Event], count: usize, tick: u32) -> bool
     ensures within { IsTrue result → count ≤ length events.now }
     ensures last { IsTrue result → (d : Event) → 0 < count
@@ -75,9 +76,34 @@ fn count_up_to(events: &[Event], tick: u32) -> usize
     }
 }
 
+/// Says whether the event behind so many comes behind a tick, where there is one.
+#[inline]
+fn is_later_from(events: &[Event], count: usize, tick: u32) -> bool
+    ensures next { IsTrue result → (d : Event) → count < length events.now
+        → tick < (get_or events.now count d).tick }
+{
+    match events.get(count) {
+        Some(next) => tick < next.tick,
+        None => true,
+    }
+}
+
 /// The events of one tick, of events whose ticks don't fall. `done` is how many come before it, if it is right, and then
-/// how many come up to it.
+/// how many come up to it. Mostly it is right, and the tick has none.
+#[inline(always)]
 pub fn events_on_tick<'a>(events: &'a [Event], tick: u32, done: &mut usize) -> &'a [Event]
+    requires { IsNonDecreasingBy (λ (event : Event). event.tick) events.now }
+    ensures { result.now ≡ on_tick tick events.now }
+{
+    if ends_before(events, *done, tick) && is_later_from(events, *done, tick) {
+        return &events[..0];
+    }
+    find_on_tick(events, tick, done)
+}
+
+/// The events of one tick, which are searched for where `done` isn't how many come before it.
+#[inline(never)]
+fn find_on_tick<'a>(events: &'a [Event], tick: u32, done: &mut usize) -> &'a [Event]
     requires { IsNonDecreasingBy (λ (event : Event). event.tick) events.now }
     ensures { result.now ≡ on_tick tick events.now }
 {
