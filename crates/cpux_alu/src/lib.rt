@@ -43,6 +43,7 @@ pub fn two(op: Op2, size: Size, src: u32, dst: u32, sr: u16) -> (u32, u16)
     (effect.value, status(sr, effect.flags))
 }
 
+#[inline(always)]
 #[tactic(auto, using(crate::proofs::InWidth::or_in_width, crate::proofs::InWidth::xor_in_width), unfolding(crate::specs::Operations::two_effect))]
 fn two_operands(op: Op2, size: Size, src: u32, dst: u32, carry: bool) -> Effect
     requires source { src < span size }

@@ -34,6 +34,7 @@ pub fn is_extension(word: u16) -> bool
 
 /// The form of the instruction that begins with these two words, and how many belong to it. Where the first is no
 /// extension word, the second may be any.
+#[inline(always)]
 #[tactic(auto, using(crate::proofs::Fronts::lengths), unfolding(crate::specs::Instructions::length_of))]
 pub fn look_at(w0: u16, w1: u16) -> Look
     ensures form { result.form ≡ form_of w0 w1 }

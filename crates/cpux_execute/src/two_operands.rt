@@ -61,6 +61,7 @@ fn write_destination<B: Bus>(
 }
 
 /// What follows the source: the destination at an address, the result and the flags.
+#[inline(always)]
 #[tactic(auto, using(chip_words::proofs::Runs::run_then))]
 fn finish<B: Bus>(
     regs: &mut Regs,
