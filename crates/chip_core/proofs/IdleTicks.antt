@@ -1,25 +1,28 @@
--- A tick of a chip that nothing disturbs and whose processor makes no step has no line and no item, and changes nothing but
--- how long the processor is busy.
+-- A tick of a chip that nothing disturbs is the processor's. Where it makes no step, the tick has no line and no item, and
+-- changes nothing but how long the processor is busy.
 use Rattle.std.proofs.Common.{◌≡◌, ◌∙◌, ℕ, ◌-◌, ◌+◌, Bool, true, false, ◌==◌, ◌&&◌, ◌||◌, not, nat_lt, List, [], ◌∷◌, ◌++◌, map, refl, sym, ap, inl, inr, arith}
 use Rattle.std.specs.Prelude.{if◌then◌else◌, Option, Some, None, is_none, slice_index}
 use Rattle.std.proofs.lemmas.Bool.{and_parts, cases_Bool}
 use Rattle.std.proofs.lemmas.Bool.Decides.{nat_tests}
-use Rattle.std.proofs.lemmas.List.{append-nil}
 use Rattle.chip_words.specs.Channel.{Channel}
 use Rattle.chip_words.specs.Registers.{PC}
 use Rattle.dma_unit.specs.Transfers.{are_quiet, channel_passed, due, due_from, is_quiet, passed}
 use Rattle.power_schedule.specs.declared.powers.Power.TheVariants.{On}
 use Rattle.trace_print.specs.declared.items.TraceItem.{TraceItem}
 use Rattle.trace_print.specs.declared.releases.Item.{Item}
+use Rattle.chip_core.specs.declared.items.Start.{Start}
 use Rattle.chip_core.specs.declared.owners.Owner.TheVariants.{Processor}
-use Rattle.chip_core.specs.Idle.{is_undisturbed, makes_no_step}
-use Rattle.chip_core.specs.Items.{stages_items}
-use Rattle.chip_core.specs.Lines.{stage_lines}
+use Rattle.chip_core.specs.declared.steps.Step.{Step}
+use Rattle.chip_core.specs.Idle.{given_from, is_undisturbed, makes_no_step, shown_from}
+use Rattle.chip_core.specs.Items.{exit_items, stages_items, start_of, step_items}
+use Rattle.chip_core.specs.Lines.{lines_with_power, stage_lines}
 use Rattle.chip_core.specs.Phase.{is_private}
+use Rattle.chip_core.specs.Pins.{pin_lines, pins_of}
 use Rattle.chip_core.specs.State.{State}
 use Rattle.chip_core.specs.Tick.{Stages, reset, stages_by, stages_from, taken_cause}
 use Rattle.chip_core.specs.Turns.{Turn, owned, owner_of, accepted_by, is_off, processor_turn, step_owned, with_dma, without_step}
 use Rattle.chip_core.proofs.NoItems.{left_and_not}
+use Rattle.chip_core.proofs.SamePins.{unchanged}
 
 -- What it says, one by one.
 
@@ -27,7 +30,7 @@ none_there : {A : Type 0} (option : Option A) → is_none option ≡ true → op
 none_there None h = refl
 none_there (Some x) h = grind (arith, h)
 
-not_set : (test : Bool) → not test ≡ true → test ≡ false
+pub not_set : (test : Bool) → not test ≡ true → test ≡ false
 not_set false h = refl
 not_set true h = grind (arith, h)
 
@@ -120,7 +123,7 @@ no_reset : (left : ℕ) (chip : State) → IsCalm chip → reset (with_busy left
 unfolding reset
 no_reset left chip is = rw (is.cause) refl
 
-abbrev with_turn : State → Turn → Stages
+abbrev pub with_turn : State → Turn → Stages
 with_turn chip turn = record { ready = chip; owner = Processor; turn = turn; boot = None; after = reset turn.chip }
 
 abbrev pub stages_of_wait : ℕ → State → Stages
@@ -136,7 +139,7 @@ owned_is : (chip : State) → IsCalm chip → owned Processor chip ≡ processor
 unfolding owned
 owned_is chip is = ap processor_turn (rests_stay chip is)
 
-turn_stages : (chip : State) → IsCalm chip → stages_from On chip ≡ with_turn chip (processor_turn chip)
+pub turn_stages : (chip : State) → IsCalm chip → stages_from On chip ≡ with_turn chip (processor_turn chip)
 unfolding step_owned
 turn_stages chip is = ap (λ owner. stages_by On chip owner) (owner_is chip is) ∙ ap (with_turn chip) (owned_is chip is)
 
@@ -159,21 +162,24 @@ pub gives_nothing : (left : ℕ) (chip : State) → stages_items On (stages_of_w
 unfolding is_private
 gives_nothing left chip = left_and_not (is_private chip) chip.powered _
 
+no_pin_line : (left : ℕ) (chip : State) → pin_lines (pins_of chip) (pins_of (with_busy left chip)) ≡ []
+unfolding pins_of
+no_pin_line left chip = unchanged (pins_of chip)
+
 -- so all that such a tick does is that it leaves so much to wait
 record IsIdle (left : ℕ) (chip : State) : Type 0 where
   after : with_busy left chip ≡ (stages_from On chip).after
-  lines : (lines : List TraceItem) → lines ≡ lines ++ stage_lines On (stages_from On chip)
-  items : [] ≡ stages_items On (stages_from On chip)
+  lines : [] ≡ shown_from chip
+  items : [] ≡ given_from chip
 
 idle : (left : ℕ) (chip : State) → IsCalm chip → processor_turn chip ≡ without_step (with_busy left chip) → IsIdle left chip
 idle left chip is turn =
     let stages = stages_are left chip is turn in
-    let no_line = ap (stage_lines On) stages ∙ shows_nothing left chip is in
-    let no_item = ap (stages_items On) stages ∙ gives_nothing left chip in
+    let shown = ap (λ (all : Stages). stage_lines On all ++ pin_lines (pins_of chip) (pins_of all.after)) stages in
     record {
       after = sym (ap (λ stages. stages.after) stages);
-      lines = λ lines. sym (append-nil lines) ∙ ap (λ more. lines ++ more) (sym no_line);
-      items = sym no_item;
+      lines = sym (shown ∙ rw (shows_nothing left chip is) (no_pin_line left chip));
+      items = sym (ap (stages_items On) stages ∙ gives_nothing left chip);
     }
 
 busy_idle : (chip : State) → is_undisturbed chip ≡ true → nat_lt 0 chip.busy ≡ true → IsIdle (chip.busy - 1) chip
@@ -185,34 +191,47 @@ stepless_idle chip undisturbed rested stands = idle chip.busy chip (calm chip un
 pub busy_after : (chip : State) → is_undisturbed chip ≡ true → nat_lt 0 chip.busy ≡ true → with_busy (chip.busy - 1) chip ≡ (stages_from On chip).after
 busy_after chip undisturbed busy = (busy_idle chip undisturbed busy).after
 
-pub busy_lines : (lines : List TraceItem) (chip : State) → is_undisturbed chip ≡ true → nat_lt 0 chip.busy ≡ true → lines ≡ lines ++ stage_lines On (stages_from On chip)
-busy_lines lines chip undisturbed busy = (busy_idle chip undisturbed busy).lines lines
+pub busy_lines : (lines : List TraceItem) (chip : State) → is_undisturbed chip ≡ true → nat_lt 0 chip.busy ≡ true → lines ≡ [] → lines ≡ shown_from chip
+busy_lines lines chip undisturbed busy none = none ∙ (busy_idle chip undisturbed busy).lines
 
-pub busy_items : (items : List Item) (chip : State) → is_undisturbed chip ≡ true → nat_lt 0 chip.busy ≡ true → items ≡ [] → items ≡ stages_items On (stages_from On chip)
+pub busy_items : (items : List Item) (chip : State) → is_undisturbed chip ≡ true → nat_lt 0 chip.busy ≡ true → items ≡ [] → items ≡ given_from chip
 busy_items items chip undisturbed busy none = none ∙ (busy_idle chip undisturbed busy).items
 
 pub stepless_after : (chip : State) → is_undisturbed chip ≡ true → nat_lt 0 chip.busy ≡ false → makes_no_step chip ≡ true → chip ≡ (stages_from On chip).after
 stepless_after chip undisturbed rested stands = (stepless_idle chip undisturbed rested stands).after
 
-pub stepless_lines : (lines : List TraceItem) (chip : State) → is_undisturbed chip ≡ true → nat_lt 0 chip.busy ≡ false → makes_no_step chip ≡ true → lines ≡ lines ++ stage_lines On (stages_from On chip)
-stepless_lines lines chip undisturbed rested stands = (stepless_idle chip undisturbed rested stands).lines lines
+pub stepless_lines : (lines : List TraceItem) (chip : State) → is_undisturbed chip ≡ true → nat_lt 0 chip.busy ≡ false → makes_no_step chip ≡ true → lines ≡ [] → lines ≡ shown_from chip
+stepless_lines lines chip undisturbed rested stands none = none ∙ (stepless_idle chip undisturbed rested stands).lines
 
-pub stepless_items : (items : List Item) (chip : State) → is_undisturbed chip ≡ true → nat_lt 0 chip.busy ≡ false → makes_no_step chip ≡ true → items ≡ [] → items ≡ stages_items On (stages_from On chip)
+pub stepless_items : (items : List Item) (chip : State) → is_undisturbed chip ≡ true → nat_lt 0 chip.busy ≡ false → makes_no_step chip ≡ true → items ≡ [] → items ≡ given_from chip
 stepless_items items chip undisturbed rested stands none = none ∙ (stepless_idle chip undisturbed rested stands).items
 
--- The turn of a chip that nothing disturbs is the processor's.
+-- What a turn in public phase leaves, shows, and gives away.
 
-owner_owns : (chip : State) → is_undisturbed chip ≡ true → processor_turn chip ≡ owned (owner_of chip) chip
-owner_owns chip undisturbed =
-    let is = calm chip undisturbed in
-    sym (ap (λ owner. owned owner chip) (owner_is chip is) ∙ owned_is chip is)
+pub public_after : (chip : State) → is_undisturbed chip ≡ true → reset (processor_turn chip).chip ≡ (stages_from On chip).after
+public_after chip undisturbed = sym (ap (λ (all : Stages). all.after) (turn_stages chip (calm chip undisturbed)))
 
-pub processor_owns : (chip : State) → is_undisturbed chip ≡ true → (processor_turn chip).chip ≡ (owned (owner_of chip) chip).chip
-processor_owns chip undisturbed = ap (λ (turn : Turn). turn.chip) (owner_owns chip undisturbed)
+pub public_lines :
+    (chip : State) → is_undisturbed chip ≡ true →
+    lines_with_power chip.halted None (processor_turn chip).chip (reset (processor_turn chip).chip)
+    ≡ stage_lines On (stages_from On chip)
+public_lines chip undisturbed = sym (ap (stage_lines On) (turn_stages chip (calm chip undisturbed)))
 
-pub processor_steps : (chip : State) → is_undisturbed chip ≡ true → (processor_turn chip).step ≡ (owned (owner_of chip) chip).step
-processor_steps chip undisturbed = ap (λ (turn : Turn). turn.step) (owner_owns chip undisturbed)
+-- a step in public phase has no item
+public_step : (start : Start) (step : Option Step) (after : State) → start.private ≡ false → step_items On start step after ≡ []
+public_step start (Some step) after public = rw public refl
+public_step start None after public = refl
 
-pub boot_is_done : (chip : State) → is_undisturbed chip ≡ true → None ≡ step_owned (owner_of chip) chip
-unfolding step_owned
-boot_is_done chip undisturbed = sym (ap (λ owner. step_owned owner chip) (owner_is chip (calm chip undisturbed)))
+public_exit : (start : Start) (after : State) → start.private ≡ false → exit_items start after ≡ []
+public_exit start after public = rw public refl
+
+public_given : (chip : State) → is_undisturbed chip ≡ true → is_private chip ≡ false → given_from chip ≡ []
+public_given chip undisturbed public =
+    ap (stages_items On) (turn_stages chip (calm chip undisturbed))
+    ∙ rw (
+      public_step (start_of chip) (processor_turn chip).step (processor_turn chip).chip public,
+      public_exit (start_of chip) (reset (processor_turn chip).chip) public,
+    ) refl
+
+pub public_items : (items : List Item) (chip : State) → is_undisturbed chip ≡ true → is_private chip ≡ false → items ≡ [] → items ≡ given_from chip
+public_items items chip undisturbed public none = none ∙ sym (public_given chip undisturbed public)

@@ -3,7 +3,7 @@ pub mod Given
 pub mod IdleTicks
 pub mod NoItems
 pub mod Printable
-pub mod QuietTicks
+pub mod PlainTicks
 pub mod SamePins
 pub mod StepEnds
 pub mod Told

@@ -1,4 +1,4 @@
-ghost use Rattle.std.specs.Prelude.{◌≡◌, ◌+◌, ◌<◌, ◌≤◌, ◌++◌, [], All, IfOk, IfSome, slice_index};
+ghost use Rattle.std.specs.Prelude.{◌≡◌, ◌+◌, ◌<◌, ◌≤◌, ◌++◌, [], All, IfOk, IfSome, slice_index, true};
 ghost use Rattle.arrayvec.specs.ArrayVec.{array_vec_len};
 ghost use Rattle.trace_print.specs.Lines.{IsPrintable};
 ghost use Rattle.power_schedule.specs.declared.powers.Power.TheVariants.{On};
@@ -6,7 +6,7 @@ ghost use Rattle.stimulus.specs.Events.{IsAct};
 ghost use Rattle.chip_words.specs.Bits.{has_bit};
 ghost use Rattle.chip_words.specs.Causes.{is_of_bor as is_of_bor_cause};
 ghost use Rattle.chip_words.specs.Registers.{SR as STATUS};
-ghost use Rattle.chip_core.specs.Idle.{is_plain, is_quiet, is_undisturbed, waited};
+ghost use Rattle.chip_core.specs.Idle.{given_from, is_plain, is_undisturbed, plainly_ticked, shown_from, started};
 ghost use Rattle.chip_core.specs.FirstState.{first_state};
 ghost use Rattle.chip_core.specs.Items.{IsItem, items_of, stages_items};
 ghost use Rattle.chip_core.specs.Lines.{event_lines, halted_since, lines_of, lines_with_power, power_lines, stage_lines, stimulus_lines};
@@ -105,6 +105,7 @@ impl Chip {
     }
 
     /// The pins, as the outside sees them: without power all are open.
+    #[inline]
     #[tactic(auto, unfolding(crate::specs::Pins::pins_of))]
     pub(crate) fn pins(&self) -> Pins
         ensures { result ≡ pins_of self.now }
@@ -118,8 +119,8 @@ impl Chip {
 
     /// Does the next tick under a bench, and puts its lines and its items in place of those in `lines` and `items`.
     ///
-    /// Many ticks are those of a processor that is busy with the cycles of its instruction, or sleeps: they come first.
-    #[tactic(auto, using(crate::proofs::QuietTicks::quiet_chip, crate::proofs::QuietTicks::quiet_lines, crate::proofs::QuietTicks::quiet_items))]
+    /// Most ticks are plain, and leave the stages of power and of the stimulus aside.
+    #[tactic(auto, using(crate::proofs::PlainTicks::plain_chip, crate::proofs::PlainTicks::plain_lines, crate::proofs::PlainTicks::plain_items))]
     pub fn tick(&mut self, bench: &Bench, lines: &mut Lines, items: &mut Items)
         requires { (self.old).tick < 10000000 }
         ensures chip { self.new ≡ ticked bench.now self.old }
@@ -130,26 +131,11 @@ impl Chip {
     {
         lines.clear();
         items.clear();
-        if self.is_quiet(bench) {
-            self.wait();
+        if self.is_plain(bench) {
+            self.tick_plainly(lines, items);
         } else {
             self.tick_whole(bench, lines, items);
         }
-    }
-
-    /// Says whether the next tick does nothing but that the processor waits. What fails most often is asked first, and
-    /// what takes longest last.
-    #[inline]
-    fn is_quiet(&self, bench: &Bench) -> bool
-        ensures { result ≡ is_quiet bench.now self.now }
-    {
-        if self.busy == 0 && !self.may_stand() {
-            return false;
-        }
-        !self.fabric.counts(self.has_smclk(), self.has_aclk())
-            && self.is_undisturbed()
-            && self.is_plain(bench)
-            && (self.busy > 0 || self.makes_no_step())
     }
 
     /// Says whether power stays on in the next tick, and the bench has no event for it.
@@ -163,15 +149,92 @@ impl Chip {
             && bench.next_events(self.tick, &mut done).is_empty()
     }
 
-    /// Does a tick in which the processor waits, and nothing else happens.
+    /// Does the next tick, which is plain.
     #[inline]
-    fn wait(&mut self)
-        requires { (self.old).tick < 10000000 }
-        ensures { self.new ≡ waited self.old }
+    #[tactic(auto, unfolding(crate::specs::Tick::timed))]
+    fn tick_plainly(&mut self, lines: &mut Lines, items: &mut Items)
+        requires tick { (self.old).tick < 10000000 }
+        requires no_line { lines.old.items ≡ [] }
+        requires no_item { items.old.items ≡ [] }
+        ensures chip { self.new ≡ plainly_ticked self.old }
+        ensures lines { lines.new.items ≡ shown_from (started self.old) }
+        ensures items { items.new.items ≡ given_from (started self.old) }
+        ensures printable { All IsPrintable lines.new.items }
+        ensures given { All IsItem items.new.items }
     {
+        let next = self.tick + 1;
+        self.fabric.begin_tick(None);
+        self.time();
+        if self.is_undisturbed() {
+            self.finish_undisturbed(lines, items);
+        } else {
+            self.finish(lines, items);
+        }
         self.fabric.end_tick();
-        self.busy = self.busy.saturating_sub(1);
-        self.tick += 1;
+        self.tick = next;
+    }
+
+    /// Does the stages from the bus owner's turn on, where the processor owns the bus and no reset is due.
+    ///
+    /// Mostly it is busy with the cycles of its instruction, or sleeps, or makes a step in public phase.
+    #[inline]
+    #[tactic(auto, using(crate::proofs::IdleTicks::public_items))]
+    fn finish_undisturbed(&mut self, lines: &mut Lines, items: &mut Items)
+        requires undisturbed { is_undisturbed self.old ≡ true }
+        requires no_line { lines.old.items ≡ [] }
+        requires no_item { items.old.items ≡ [] }
+        ensures chip { self.new ≡ (stages_from On self.old).after }
+        ensures lines { lines.new.items ≡ shown_from self.old }
+        ensures items { items.new.items ≡ given_from self.old }
+        ensures printable { All IsPrintable lines.new.items }
+        ensures given { All IsItem items.new.items }
+    {
+        if self.busy > 0 {
+            self.busy -= 1;
+            return;
+        }
+        if self.makes_no_step() {
+            return;
+        }
+        if self.is_private() {
+            self.finish(lines, items);
+            return;
+        }
+        let pins = self.pins();
+        self.step_publicly(lines);
+        tell_changes(pins, self.pins(), lines);
+    }
+
+    /// Does a turn of the processor in public phase, which gives nothing away.
+    #[inline]
+    #[tactic(auto, using(crate::proofs::IdleTicks::public_after, crate::proofs::IdleTicks::public_lines))]
+    fn step_publicly(&mut self, lines: &mut Lines)
+        requires undisturbed { is_undisturbed self.old ≡ true }
+        requires no_line { lines.old.items ≡ [] }
+        ensures chip { self.new ≡ (stages_from On self.old).after }
+        ensures lines { lines.new.items ≡ stage_lines On (stages_from On self.old) }
+        ensures count { array_vec_len lines.new ≤ 13 }
+        ensures printable { All IsPrintable lines.new.items }
+    {
+        let was_halted = self.halted;
+        self.turn();
+        self.end_stages(was_halted, None, lines);
+    }
+
+    /// Does the stages from the bus owner's turn on, whoever it is.
+    #[inline(never)]
+    fn finish(&mut self, lines: &mut Lines, items: &mut Items)
+        requires no_line { lines.old.items ≡ [] }
+        requires no_item { items.old.items ≡ [] }
+        ensures chip { self.new ≡ (stages_from On self.old).after }
+        ensures lines { lines.new.items ≡ shown_from self.old }
+        ensures items { items.new.items ≡ given_from self.old }
+        ensures printable { All IsPrintable lines.new.items }
+        ensures given { All IsItem items.new.items }
+    {
+        let pins = self.pins();
+        self.do_turn(lines, items);
+        tell_changes(pins, self.pins(), lines);
     }
 
     /// Does the next tick with all its stages, where no line and no item stands yet.
@@ -249,9 +312,7 @@ impl Chip {
         }
     }
 
-    /// The stages behind the clock edges, in a tick with power.
-    ///
-    /// Ticks in which the processor waits come first here too: those in which a timer counts.
+    /// The stages behind the clock edges, in a tick with power, but for what the pins show.
     fn do_turn(&mut self, lines: &mut Lines, items: &mut Items)
         requires room { array_vec_len lines.old ≤ 9 }
         requires printable { All IsPrintable lines.old.items }
@@ -263,18 +324,10 @@ impl Chip {
         ensures printable { All IsPrintable lines.new.items }
         ensures given { All IsItem items.new.items }
     {
-        if self.is_undisturbed() {
-            if self.busy > 0 {
-                self.busy -= 1;
-                return;
-            }
-            if self.makes_no_step() {
-                return;
-            }
-        }
         let start = self.start();
         let was_halted = self.halted;
-        let made = self.own_bus();
+        let owner = self.owner();
+        let made = self.own(owner);
         self.note_step(Power::On, &start, made.step, items);
         self.note_boot(Power::On, &start, made.boot, items);
         self.end_stages(was_halted, made.boot, lines);
@@ -293,6 +346,7 @@ impl Chip {
     }
 
     /// Shows what the turn did, and does the reset.
+    #[inline(always)]
     fn end_stages(&mut self, was_halted: bool, step: Option<BootStep>, lines: &mut Lines)
         requires room { array_vec_len lines.old ≤ 9 }
         requires printable { All IsPrintable lines.old.items }
@@ -320,6 +374,7 @@ impl Chip {
     }
 
     /// A BOR with a cause.
+    #[inline(never)]
     fn bor(&mut self, cause: u8)
         ensures { self.new ≡ after_bor cause self.old }
     {
@@ -341,6 +396,7 @@ impl Chip {
     }
 
     /// A PUC with a cause.
+    #[inline(never)]
     fn puc(&mut self, cause: u8)
         ensures { self.new ≡ after_puc cause self.old }
     {
@@ -352,6 +408,7 @@ impl Chip {
     }
 
     /// The reset: takes the least cause that was requested in the tick, if there is one, and gives it.
+    #[inline]
     #[tactic(auto, unfolding(crate::specs::Tick::reset))]
     fn reset(&mut self) -> Option<u8>
         ensures cause { result ≡ taken_cause self.old }
@@ -409,6 +466,7 @@ impl Chip {
     }
 
     /// The timers take the clock edges of the tick, once the boot is done.
+    #[inline]
     fn time(&mut self)
         ensures { self.new ≡ clocked (self.old).boot self.old }
     {
@@ -420,6 +478,7 @@ impl Chip {
     }
 
     /// Says whether SMCLK has an edge in the tick.
+    #[inline]
     fn has_smclk(&self) -> bool
         ensures edge { result ≡ smclk_edge self.now }
     {
@@ -427,6 +486,7 @@ impl Chip {
     }
 
     /// Says whether ACLK has an edge in the tick.
+    #[inline]
     fn has_aclk(&self) -> bool
         ensures edge { result ≡ aclk_edge self.now }
     {

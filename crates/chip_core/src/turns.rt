@@ -2,7 +2,7 @@
 
 ghost use Rattle.std.specs.Prelude.{◌≡◌, ◌<◌, IfSome, Some};
 ghost use Rattle.chip_words.specs.Causes.{least_cause, lesser_cause};
-ghost use Rattle.chip_core.specs.Idle.{makes_no_step, may_stand};
+ghost use Rattle.chip_core.specs.Idle.{makes_no_step};
 ghost use Rattle.chip_core.specs.Steps.{HasStep, IsStepOf};
 ghost use Rattle.chip_core.specs.Owners.{IsChannel};
 ghost use Rattle.chip_core.specs.Turns.{accepted_by, entered, free_turn, instructed, instruction_ended, is_off as is_off_state, owned, owner_of, processor_turn, reserved_cause, rested_by, step_owned, takes_interrupts as takes_interrupts_state, transfer_turn};
@@ -67,25 +67,6 @@ impl Chip {
         made
     }
 
-    /// The turn of the owner of the bus, whoever it is. Mostly nothing else is due and it is the processor.
-    #[inline]
-    #[tactic(auto, using(crate::proofs::IdleTicks::processor_owns, crate::proofs::IdleTicks::processor_steps, crate::proofs::IdleTicks::boot_is_done))]
-    pub(crate) fn own_bus(&mut self) -> Made
-        ensures chip { self.new ≡ (owned (owner_of self.old) self.old).chip }
-        ensures step { result.step ≡ (owned (owner_of self.old) self.old).step }
-        ensures boot { result.boot ≡ step_owned (owner_of self.old) self.old }
-        ensures made { HasStep result.step self.new }
-    {
-        if self.is_undisturbed() {
-            return Made {
-                step: self.turn(),
-                boot: None,
-            };
-        }
-        let owner = self.owner();
-        self.own(owner)
-    }
-
     /// Lowers the rests of the channels of DMA, in a tick that DMA doesn't own.
     fn rest_channels(&mut self, owner: &Owner)
         ensures chip { self.new ≡ rested_by owner.now self.old }
@@ -109,9 +90,10 @@ impl Chip {
         self.second_tick = true;
     }
 
-    /// The processor's turn, with the step that it made.
+    /// The processor's turn, with the step that it made. Who doesn't ask for the step doesn't pay for it.
+    #[inline(always)]
     #[tactic(auto, unfolding(crate::specs::Turns::processor_turn))]
-    fn turn(&mut self) -> Option<Step>
+    pub(crate) fn turn(&mut self) -> Option<Step>
         ensures chip { self.new ≡ (processor_turn self.old).chip }
         ensures step { result ≡ (processor_turn self.old).step }
         ensures made { HasStep result self.new }
@@ -131,6 +113,7 @@ impl Chip {
     }
 
     /// The turn of a processor that isn't busy: an interrupt, or an instruction.
+    #[inline(always)]
     fn turn_freely(&mut self) -> Option<Step>
         ensures chip { self.new ≡ (free_turn (accepted_by self.old) self.old).chip }
         ensures step { result ≡ (free_turn (accepted_by self.old) self.old).step }
@@ -149,21 +132,15 @@ impl Chip {
     }
 
     /// Says whether the processor, where it isn't busy, makes no step.
+    #[inline]
     pub(crate) fn makes_no_step(&self) -> bool
         ensures { result ≡ makes_no_step self.now }
     {
         !self.pending && (self.halted || self.dead || (self.is_off() && self.accepted().is_none()))
     }
 
-    /// Says whether the processor was halted, is dead, or is off: else, where it isn't busy, it makes a step.
-    #[inline]
-    pub(crate) fn may_stand(&self) -> bool
-        ensures { result ≡ may_stand self.now }
-    {
-        self.halted || self.dead || self.is_off()
-    }
-
     /// The vector of the interrupt that is accepted. The lines are asked for only where one of them may be.
+    #[inline]
     #[tactic(auto, unfolding(chip_words::specs::Interrupts::accepted))]
     fn accepted(&self) -> Option<u32>
         ensures vector { result ≡ accepted_by self.now }
@@ -189,6 +166,7 @@ impl Chip {
     }
 
     /// Executes one instruction.
+    #[inline(always)]
     #[tactic(auto, using(crate::proofs::StepEnds::step_ended_few), unfolding(crate::specs::Turns::instructed))]
     fn instruct(&mut self) -> Step
         ensures chip { self.new ≡ (instructed self.old).chip }
@@ -235,6 +213,7 @@ impl Chip {
     }
 
     /// Enters the interrupt of a vector.
+    #[inline(never)]
     #[tactic(auto, using(crate::proofs::StepEnds::step_ended_few), unfolding(crate::specs::Turns::entered))]
     fn enter(&mut self, vector: u32) -> Step
         requires place { vector < 0x100000 }
