@@ -13,14 +13,14 @@ use Rattle.trace_print.specs.declared.releases.Item.{Item}
 use Rattle.chip_core.specs.declared.items.Start.{Start}
 use Rattle.chip_core.specs.declared.owners.Owner.TheVariants.{Processor}
 use Rattle.chip_core.specs.declared.steps.Step.{Step}
-use Rattle.chip_core.specs.Idle.{given_from, is_undisturbed, makes_no_step, shown_from}
+use Rattle.chip_core.specs.Idle.{IsFree, given_from, is_undisturbed, makes_no_step, shown_from}
 use Rattle.chip_core.specs.Items.{exit_items, stages_items, start_of, step_items}
 use Rattle.chip_core.specs.Lines.{lines_with_power, stage_lines}
 use Rattle.chip_core.specs.Phase.{is_private}
 use Rattle.chip_core.specs.Pins.{pin_lines, pins_of}
 use Rattle.chip_core.specs.State.{State}
 use Rattle.chip_core.specs.Tick.{Stages, reset, stages_by, stages_from, taken_cause}
-use Rattle.chip_core.specs.Turns.{Turn, owned, owner_of, accepted_by, is_off, processor_turn, step_owned, with_dma, without_step}
+use Rattle.chip_core.specs.Turns.{Turn, owned, owner_of, accepted_by, free_turn, is_off, processor_turn, step_owned, with_dma, without_step}
 use Rattle.chip_core.proofs.NoItems.{left_and_not}
 use Rattle.chip_core.proofs.SamePins.{unchanged}
 
@@ -208,14 +208,21 @@ stepless_items items chip undisturbed rested stands none = none ∙ (stepless_id
 
 -- What a turn in public phase leaves, shows, and gives away.
 
-pub public_after : (chip : State) → is_undisturbed chip ≡ true → reset (processor_turn chip).chip ≡ (stages_from On chip).after
-public_after chip undisturbed = sym (ap (λ (all : Stages). all.after) (turn_stages chip (calm chip undisturbed)))
+free_is : (chip : State) → IsFree chip → processor_turn chip ≡ free_turn (accepted_by chip) chip
+unfolding processor_turn
+free_is chip is = rw (is.rested, is.going_on, is.running) refl
 
-pub public_lines :
-    (chip : State) → is_undisturbed chip ≡ true →
-    lines_with_power chip.halted None (processor_turn chip).chip (reset (processor_turn chip).chip)
+free_stages : (chip : State) → is_undisturbed chip ≡ true → IsFree chip → stages_from On chip ≡ with_turn chip (free_turn (accepted_by chip) chip)
+free_stages chip undisturbed free = turn_stages chip (calm chip undisturbed) ∙ ap (with_turn chip) (free_is chip free)
+
+pub free_after : (chip : State) → is_undisturbed chip ≡ true → IsFree chip → reset (free_turn (accepted_by chip) chip).chip ≡ (stages_from On chip).after
+free_after chip undisturbed free = sym (ap (λ (all : Stages). all.after) (free_stages chip undisturbed free))
+
+pub free_lines :
+    (chip : State) → is_undisturbed chip ≡ true → IsFree chip →
+    lines_with_power chip.halted None (free_turn (accepted_by chip) chip).chip (reset (free_turn (accepted_by chip) chip).chip)
     ≡ stage_lines On (stages_from On chip)
-public_lines chip undisturbed = sym (ap (stage_lines On) (turn_stages chip (calm chip undisturbed)))
+free_lines chip undisturbed free = sym (ap (stage_lines On) (free_stages chip undisturbed free))
 
 -- a step in public phase has no item
 public_step : (start : Start) (step : Option Step) (after : State) → start.private ≡ false → step_items On start step after ≡ []

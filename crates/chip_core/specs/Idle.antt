@@ -1,5 +1,5 @@
 -- Ticks in which power stays on and no event comes, and among them those in which the processor waits.
-use Rattle.std.specs.Prelude.{◌==◌, ◌&&◌, ◌||◌, ◌++◌, not, Bool, true, false, List, is_none, length}
+use Rattle.std.specs.Prelude.{◌≡◌, ◌==◌, ◌&&◌, ◌||◌, ◌++◌, not, Bool, true, false, List, is_none, length, nat_lt}
 use Rattle.dma_unit.specs.Transfers.{is_quiet as is_dma_quiet}
 use Rattle.power_schedule.specs.declared.powers.Power.{Power}
 use Rattle.power_schedule.specs.declared.powers.Power.TheVariants.{On}
@@ -27,6 +27,13 @@ is_undisturbed chip =
 abbrev pub makes_no_step : State → Bool
 makes_no_step chip =
     not chip.pending && ((chip.halted || chip.dead) || (is_off chip && is_none (accepted_by chip)))
+
+-- a processor is free to enter an interrupt or to execute: it isn't busy, nor halted, nor about to be, and there was a
+-- reset vector
+pub record IsFree (chip : State) : Type 0 where
+  pub rested : nat_lt 0 chip.busy ≡ false
+  pub going_on : chip.pending ≡ false
+  pub running : (chip.halted || chip.dead) ≡ false
 
 abbrev pub is_on : Power → Bool
 is_on On = true

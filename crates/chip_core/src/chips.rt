@@ -6,7 +6,7 @@ ghost use Rattle.stimulus.specs.Events.{IsAct};
 ghost use Rattle.chip_words.specs.Bits.{has_bit};
 ghost use Rattle.chip_words.specs.Causes.{is_of_bor as is_of_bor_cause};
 ghost use Rattle.chip_words.specs.Registers.{SR as STATUS};
-ghost use Rattle.chip_core.specs.Idle.{given_from, is_plain, is_undisturbed, plainly_ticked, shown_from, started};
+ghost use Rattle.chip_core.specs.Idle.{IsFree, given_from, is_plain, is_undisturbed, plainly_ticked, shown_from, started};
 ghost use Rattle.chip_core.specs.FirstState.{first_state};
 ghost use Rattle.chip_core.specs.Items.{IsItem, items_of, stages_items};
 ghost use Rattle.chip_core.specs.Lines.{event_lines, halted_since, lines_of, lines_with_power, power_lines, stage_lines, stimulus_lines};
@@ -150,7 +150,7 @@ impl Chip {
     }
 
     /// Does the next tick, which is plain.
-    #[inline]
+    #[inline(always)]
     #[tactic(auto, unfolding(crate::specs::Tick::timed))]
     fn tick_plainly(&mut self, lines: &mut Lines, items: &mut Items)
         requires tick { (self.old).tick < 10000000 }
@@ -177,7 +177,7 @@ impl Chip {
     /// Does the stages from the bus owner's turn on, where the processor owns the bus and no reset is due.
     ///
     /// Mostly it is busy with the cycles of its instruction, or sleeps, or makes a step in public phase.
-    #[inline]
+    #[inline(always)]
     #[tactic(auto, using(crate::proofs::IdleTicks::public_items))]
     fn finish_undisturbed(&mut self, lines: &mut Lines, items: &mut Items)
         requires undisturbed { is_undisturbed self.old ≡ true }
@@ -196,7 +196,7 @@ impl Chip {
         if self.makes_no_step() {
             return;
         }
-        if self.is_private() {
+        if self.pending || self.halted || self.dead || self.is_private() {
             self.finish(lines, items);
             return;
         }
@@ -205,11 +205,12 @@ impl Chip {
         tell_changes(pins, self.pins(), lines);
     }
 
-    /// Does a turn of the processor in public phase, which gives nothing away.
-    #[inline]
-    #[tactic(auto, using(crate::proofs::IdleTicks::public_after, crate::proofs::IdleTicks::public_lines))]
+    /// Does a step of the processor in public phase, which gives nothing away.
+    #[inline(never)]
+    #[tactic(auto, using(crate::proofs::IdleTicks::free_after, crate::proofs::IdleTicks::free_lines))]
     fn step_publicly(&mut self, lines: &mut Lines)
         requires undisturbed { is_undisturbed self.old ≡ true }
+        requires free { IsFree self.old }
         requires no_line { lines.old.items ≡ [] }
         ensures chip { self.new ≡ (stages_from On self.old).after }
         ensures lines { lines.new.items ≡ stage_lines On (stages_from On self.old) }
@@ -217,7 +218,7 @@ impl Chip {
         ensures printable { All IsPrintable lines.new.items }
     {
         let was_halted = self.halted;
-        self.turn();
+        self.turn_freely();
         self.end_stages(was_halted, None, lines);
     }
 

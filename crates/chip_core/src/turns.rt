@@ -114,7 +114,7 @@ impl Chip {
 
     /// The turn of a processor that isn't busy: an interrupt, or an instruction.
     #[inline(always)]
-    fn turn_freely(&mut self) -> Option<Step>
+    pub(crate) fn turn_freely(&mut self) -> Option<Step>
         ensures chip { self.new ≡ (free_turn (accepted_by self.old) self.old).chip }
         ensures step { result ≡ (free_turn (accepted_by self.old) self.old).step }
         ensures made { HasStep result self.new }
@@ -146,11 +146,24 @@ impl Chip {
         ensures vector { result ≡ accepted_by self.now }
         ensures place { IfSome result (λ vector. vector < 0x100000) }
     {
-        let takes = self.takes_interrupts();
-        if !takes && !self.fabric.nmi {
+        if !self.takes_interrupts() && !self.fabric.nmi {
             return None;
         }
-        best(self.fabric.lines(), takes, self.fabric.nmi)
+        self.best_accepted()
+    }
+
+    /// The vector of the best interrupt by the lines that stand. It stands apart so that its callers hold the test alone.
+    #[inline(never)]
+    #[tactic(auto, unfolding(chip_words::specs::Interrupts::accepted))]
+    fn best_accepted(&self) -> Option<u32>
+        ensures vector { result ≡ accepted_by self.now }
+        ensures place { IfSome result (λ vector. vector < 0x100000) }
+    {
+        best(
+            self.fabric.lines(),
+            self.takes_interrupts(),
+            self.fabric.nmi,
+        )
     }
 
     fn takes_interrupts(&self) -> bool
