@@ -5,5 +5,6 @@ pub mod NoItems
 pub mod Printable
 pub mod PlainTicks
 pub mod SamePins
+pub mod SilentTicks
 pub mod StepEnds
 pub mod Told

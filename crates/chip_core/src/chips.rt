@@ -120,7 +120,6 @@ impl Chip {
     /// Does the next tick under a bench, and puts its lines and its items in place of those in `lines` and `items`.
     ///
     /// Most ticks are plain, and leave the stages of power and of the stimulus aside.
-    #[tactic(auto, using(crate::proofs::PlainTicks::plain_chip, crate::proofs::PlainTicks::plain_lines, crate::proofs::PlainTicks::plain_items))]
     pub fn tick(&mut self, bench: &Bench, lines: &mut Lines, items: &mut Items)
         requires { (self.old).tick < 10000000 }
         ensures chip { self.new ≡ ticked bench.now self.old }
@@ -131,6 +130,22 @@ impl Chip {
     {
         lines.clear();
         items.clear();
+        self.tick_more(bench, lines, items);
+    }
+
+    /// Does the next tick, where no line and no item stands yet.
+    #[inline(always)]
+    #[tactic(auto, using(crate::proofs::PlainTicks::plain_chip, crate::proofs::PlainTicks::plain_lines, crate::proofs::PlainTicks::plain_items))]
+    pub(crate) fn tick_more(&mut self, bench: &Bench, lines: &mut Lines, items: &mut Items)
+        requires tick { (self.old).tick < 10000000 }
+        requires no_line { lines.old.items ≡ [] }
+        requires no_item { items.old.items ≡ [] }
+        ensures chip { self.new ≡ ticked bench.now self.old }
+        ensures lines { lines.new.items ≡ lines_of bench.now self.old }
+        ensures items { items.new.items ≡ items_of bench.now self.old }
+        ensures printable { All IsPrintable lines.new.items }
+        ensures given { All IsItem items.new.items }
+    {
         if self.is_plain(bench) {
             self.tick_plainly(lines, items);
         } else {

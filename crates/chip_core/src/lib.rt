@@ -13,6 +13,7 @@ mod items;
 mod lines;
 mod owners;
 mod pin_lines;
+mod runs;
 mod steps;
 mod turns;
 mod views;
