@@ -149,9 +149,10 @@ pub fn write_releases<K: Sink>(
 {
     let mut lines = Lines::new();
     let mut items = Items::new();
-    for n in 0..end {
-        chip.tick(bench, &mut lines, &mut items);
-        match put_items(chip, n, items.as_slice(), out) {
+    let mut tick = 0;
+    while tick < end {
+        tick += chip.run(bench, end, &mut lines, &mut items);
+        match put_items(chip, tick - 1, items.as_slice(), out) {
             Ok(()) => {}
             Err(e) => return Err(e),
         }

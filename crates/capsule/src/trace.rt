@@ -59,9 +59,10 @@ pub fn write_trace<K: Sink>(
 {
     let mut lines = Lines::new();
     let mut items = Items::new();
-    for n in 0..end {
-        chip.tick(bench, &mut lines, &mut items);
-        match put_lines(n, lines.as_slice(), out) {
+    let mut tick = 0;
+    while tick < end {
+        tick += chip.run(bench, end, &mut lines, &mut items);
+        match put_lines(tick - 1, lines.as_slice(), out) {
             Ok(()) => {}
             Err(e) => return Err(e),
         }
