@@ -1,1 +1,2 @@
 pub mod NoTrigger
+pub mod Quiet

@@ -1,11 +1,11 @@
-ghost use Rattle.std.specs.Prelude.{◌≡◌, ◌+◌, ◌*◌, ◌^◌, ◌<◌, IfSome, Some, None};
+ghost use Rattle.std.specs.Prelude.{◌≡◌, ◌+◌, ◌*◌, ◌^◌, ◌<◌, IfSome, Some, None, [], ◌∷◌};
 ghost use Rattle.chip_words.specs.Addresses.{register_address};
 ghost use Rattle.chip_words.specs.Bits.{part_of};
 ghost use Rattle.chip_words.specs.Dma.{Dma as DmaRegisters, channels_word, channels_written, dma_fired, dma_lines, dma_touched, dma_word, dma_written, first_dma, triggers_of, triggers_written, vector_number, waiting_channel, with_triggers};
 ghost use Rattle.chip_words.specs.InterruptLines.{DMA_LINE as LAST_LINE};
 ghost use Rattle.chip_words.specs.Sizes.{IsByteOrWord, span};
 ghost use Rattle.dma_unit.specs.Moves.{IsMove};
-ghost use Rattle.dma_unit.specs.Transfers.{due, is_quiet, move_at, passed, transferred};
+ghost use Rattle.dma_unit.specs.Transfers.{are_quiet, due, is_quiet, move_at, passed, transferred};
 
 use crate::channel::Channel;
 use crate::transfers::Move;
@@ -22,11 +22,14 @@ pub struct DmaUnit {
     second: Channel,
     third: Channel,
     dmactl4: u16,
+    /// No transfer waits, and no channel rests. Each tick asks, and few accesses change it, so it is kept.
+    is_quiet: bool,
 }
 
 impl Model for DmaUnit {
-    ghost use Rattle.std.specs.Prelude.{[], ◌∷◌};
+    ghost use Rattle.std.specs.Prelude.{◌≡◌, [], ◌∷◌};
     ghost use Rattle.chip_words.specs.Dma.{Dma as DmaRegisters};
+    ghost use Rattle.dma_unit.specs.Transfers.{are_quiet};
 
     ghost Value = { DmaRegisters };
 
@@ -34,10 +37,13 @@ impl Model for DmaUnit {
       channels = d.first ∷ d.second ∷ d.third ∷ [];
       dmactl4 = d.dmactl4;
     } };
+
+    ghost invariant = { λ d. d.is_quiet ≡ are_quiet (d.first ∷ d.second ∷ d.third ∷ []) };
 }
 
 impl DmaUnit {
     /// The values after a BOR.
+    #[tactic(auto, unfolding(chip_words::specs::Channel::first_channel))]
     pub fn new() -> DmaUnit
         ensures { result ≡ first_dma }
     {
@@ -46,10 +52,12 @@ impl DmaUnit {
             second: Channel::new(),
             third: Channel::new(),
             dmactl4: 0,
+            is_quiet: true,
         }
     }
 
     /// The unit's part of a BOR, or else of a PUC, which is the same.
+    #[tactic(auto, unfolding(chip_words::specs::Channel::first_channel))]
     pub fn reset(&mut self, _bor: bool)
         ensures { self.new ≡ first_dma }
     {
@@ -57,6 +65,7 @@ impl DmaUnit {
         self.second = Channel::new();
         self.third = Channel::new();
         self.dmactl4 = 0;
+        self.is_quiet = true;
     }
 
     /// Reads at an address of this unit.
@@ -154,8 +163,9 @@ impl DmaUnit {
             0 => self.first.write(at, size, value),
             1 => self.second.write(at - CHANNEL_BYTES, size, value),
             2 => self.third.write(at - 2 * CHANNEL_BYTES, size, value),
-            _ => {}
+            _ => return,
         }
+        self.is_quiet = find_quiet(&self.first, &self.second, &self.third);
     }
 
     /// Sets DMACTL0, which has the triggers of the channels 0 and 1, or else DMACTL1, which has that of channel 2.
@@ -232,6 +242,7 @@ impl DmaUnit {
         self.first.fire(triggers);
         self.second.fire(triggers);
         self.third.fire(triggers);
+        self.is_quiet = find_quiet(&self.first, &self.second, &self.third);
     }
 
     /// The number of the least channel, 0 to 2, that is due to transfer.
@@ -259,21 +270,36 @@ impl DmaUnit {
         ensures range { IsMove result }
         ensures dma { self.new ≡ transferred channel self.old }
     {
-        match channel {
+        let accesses = match channel {
             0 => self.first.transfer(),
             1 => self.second.transfer(),
             _ => self.third.transfer(),
+        };
+        self.is_quiet = find_quiet(&self.first, &self.second, &self.third);
+        accesses
+    }
+
+    /// A tick goes by that DMA doesn't own. Mostly nothing waits and none rests, and then nothing changes.
+    #[inline]
+    #[tactic(auto, using(crate::proofs::Quiet::nothing_passes), unfolding(crate::specs::Transfers::is_quiet))]
+    pub fn pass(&mut self)
+        ensures { self.new ≡ passed self.old }
+    {
+        if !self.is_quiet {
+            self.pass_some();
         }
     }
 
-    /// A tick goes by that DMA doesn't own.
+    /// Such a tick where a transfer waits or a channel rests. It stands apart so that its callers hold the test alone.
+    #[inline(never)]
     #[tactic(auto, unfolding(crate::specs::Transfers::passed))]
-    pub fn pass(&mut self)
+    fn pass_some(&mut self)
         ensures { self.new ≡ passed self.old }
     {
         self.first.pass();
         self.second.pass();
         self.third.pass();
+        self.is_quiet = find_quiet(&self.first, &self.second, &self.third);
     }
 
     /// No transfer waits, and no channel rests.
@@ -282,6 +308,13 @@ impl DmaUnit {
     pub fn quiet(&self) -> bool
         ensures { result ≡ is_quiet self.now }
     {
-        self.first.is_quiet() && self.second.is_quiet() && self.third.is_quiet()
+        self.is_quiet
     }
+}
+
+/// Asks each channel. It takes the channels alone, since the unit isn't whole before the answer is kept.
+fn find_quiet(first: &Channel, second: &Channel, third: &Channel) -> bool
+    ensures { result ≡ are_quiet (first.now ∷ second.now ∷ third.now ∷ []) }
+{
+    first.is_quiet() && second.is_quiet() && third.is_quiet()
 }
