@@ -5,6 +5,7 @@
 
 ghost use Rattle.std.specs.Prelude.{◌≡◌, ℕ, ◌<◌, ◌≤◌, length};
 ghost use Rattle.cpux_decode.specs.Ranges.{IsInRange};
+ghost use Rattle.cycle_table.specs.Cycles.{IsInstruction, cycles_of};
 ghost use Rattle.cpux_execute.specs.Execution.{IsShort, executed, performed};
 ghost use Rattle.cpux_execute.specs.Steps.{AddsAtMost, CpuRuns, CpuSteps};
 
@@ -61,11 +62,41 @@ fn perform<B: Bus>(regs: &mut Regs, bus: &mut B, ia: u32, pc: u32, d: &Decoded)
     }
 }
 
+/// Does an instruction of the MSP430 whose words were fetched and whose cycles are known, and says that it took them.
+///
+/// The cycles are those without waits. `ia` is the address of its first word, and `next` that behind its words, to which
+/// PC is set first. It makes at most three accesses.
+#[tactic(auto, using(chip_words::proofs::Runs::run_then), unfolding(crate::specs::Execution::executed))]
+pub fn execute_timed<B: Bus>(
+    regs: &mut Regs,
+    bus: &mut B,
+    ia: u32,
+    next: u32,
+    d: &Decoded,
+    cycles: u32,
+) -> Outcome
+    requires row { IsShort d.now }
+    requires instruction { IsInstruction d.now }
+    requires range { IsInRange d.now }
+    requires place { ia < 0x100000 }
+    requires next { next < 0x100000 }
+    requires cycles { cycles ≡ cycles_of d.now 1 0 }
+    requires room { length (B.part bus.old).accesses ≤ 4 }
+    ensures steps { CpuSteps ia (executed d.now ia next regs.old)
+        (B.part bus.old) regs.new result (B.part bus.new) }
+    ensures count { AddsAtMost 3 (B.part bus.old) (B.part bus.new) }
+    ensures cycles { result ≡ Outcome.Cycles cycles }
+{
+    regs.set(PC, next);
+    perform(regs, bus, ia, above(ia), d);
+    Outcome::Cycles(cycles)
+}
+
 /// Does an instruction of the MSP430 whose words were fetched, and says how it ended.
 ///
 /// `ia` is the address of its first word, and `next` that behind its words, to which PC is set first. It makes at most
 /// three accesses. A reserved word leaves the registers, PC too, and makes none.
-#[tactic(auto, using(chip_words::proofs::Runs::run_then), unfolding(crate::specs::Execution::executed))]
+#[tactic(auto, unfolding(crate::specs::Execution::executed))]
 pub fn execute<B: Bus>(regs: &mut Regs, bus: &mut B, ia: u32, next: u32, d: &Decoded) -> Outcome
     requires row { IsShort d.now }
     requires range { IsInRange d.now }
@@ -80,7 +111,5 @@ pub fn execute<B: Bus>(regs: &mut Regs, bus: &mut B, ia: u32, next: u32, d: &Dec
     if let Decoded::Reserved = *d {
         return Outcome::Reserved;
     }
-    regs.set(PC, next);
-    perform(regs, bus, ia, above(ia), d);
-    Outcome::Cycles(cycles(d, 1, 0))
+    execute_timed(regs, bus, ia, next, d, cycles(d, 1, 0))
 }
