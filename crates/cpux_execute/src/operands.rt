@@ -127,6 +127,7 @@ pub fn read_source<B: Bus>(
 
 /// Steps the register of a source that is read with autoincrement: by 1 for a byte, but 2 of PC and SP, by 2 for a
 /// word and 4 for 20 bits. It leaves the registers of another source.
+#[inline(always)]
 #[tactic(auto, unfolding(crate::specs::Operands::increased))]
 pub fn increase(regs: &mut Regs, size: Size, place: Place)
     requires { IsPlace place }
@@ -213,6 +214,7 @@ fn is_status(place: Place) -> bool
 /// Sets SR to the status that an operation gives, unless its result was written there.
 ///
 /// `written` says that the operation writes its result to `place`.
+#[inline(always)]
 pub fn flag(regs: &mut Regs, written: bool, place: Place, status: u16)
     ensures { regs.new ≡ flagged written place status regs.old }
 {

@@ -1,4 +1,5 @@
-ghost use Rattle.std.specs.Prelude.{◌*◌, ◌<◌, length};
+ghost use Rattle.std.specs.Prelude.{◌≡◌, ◌*◌, ◌<◌, ℕ, length};
+ghost use Rattle.chip_words.specs.Script.{Return};
 ghost use Rattle.chip_words.specs.Sizes.{span};
 ghost use Rattle.cpux_decode.specs.Ranges.{IsDestination, IsPlace};
 ghost use Rattle.cpux_execute.specs.Operands.{accesses_of};
@@ -87,6 +88,29 @@ fn finish<B: Bus>(
     flag(regs, op.writes_destination(), to, after);
 }
 
+/// What follows the source where the destination is a register: as `finish`, but it makes no access.
+///
+/// Most instructions have such a destination. For them no address is worked out, and what is done with the place isn't
+/// asked anew at each part.
+#[inline(always)]
+#[tactic(auto, unfolding(crate::specs::TwoOperands::two_target, crate::specs::TwoOperands::two_store, crate::specs::Operands::target, crate::specs::Operands::stored_to))]
+fn finish_in_register(regs: &mut Regs, op: Op2, size: Size, r: u8, status: u16, source: u32)
+    requires { r < 16 }
+    ensures { (at : ℕ) → two_rest op size (Place.Reg r) at status source regs.old ≡ Return regs.new }
+{
+    let target = if op.reads_destination() {
+        regs.get(r)
+    } else {
+        0
+    };
+    let (value, after) = two(op, size, source, target, status);
+    let written = op.writes_destination();
+    if written {
+        regs.set(r, value);
+    }
+    flag(regs, written, Place::Reg(r), after);
+}
+
 /// Does an instruction of two operands whose words were fetched, at any width.
 ///
 /// `ia` is the address of its first word, and `pc` that behind the instruction word. PC in the registers is the next
@@ -115,6 +139,10 @@ pub fn perform_two<B: Bus>(
     let next = regs.get(PC);
     let source = read_source(regs, bus, ia, pc, size, from);
     increase(regs, size, from);
-    let at = address(regs, before(next), to);
-    finish(regs, bus, ia, op, size, to, at, status, source);
+    if let Place::Reg(r) = to {
+        finish_in_register(regs, op, size, r, status, source);
+    } else {
+        let at = address(regs, before(next), to);
+        finish(regs, bus, ia, op, size, to, at, status, source);
+    }
 }
