@@ -1,12 +1,13 @@
 -- A tick of a chip that nothing disturbs is the processor's. Where it makes no step, the tick has no line and no item, and
 -- changes nothing but how long the processor is busy.
-use Rattle.std.proofs.Common.{◌≡◌, ◌∙◌, ℕ, ◌-◌, ◌+◌, Bool, true, false, ◌==◌, ◌&&◌, ◌||◌, not, nat_lt, List, [], ◌∷◌, ◌++◌, map, refl, sym, ap, inl, inr, arith}
+use Rattle.std.proofs.Common.{◌≡◌, ◌∙◌, ℕ, ◌-◌, ◌+◌, Bool, true, false, ◌==◌, ◌&&◌, ◌||◌, not, nat_lt, List, [], ◌∷◌, ◌++◌, refl, sym, ap, inl, inr, arith}
 use Rattle.std.specs.Prelude.{if◌then◌else◌, Option, Some, None, is_none, slice_index}
 use Rattle.std.proofs.lemmas.Bool.{and_parts, cases_Bool}
 use Rattle.std.proofs.lemmas.Bool.Decides.{nat_tests}
 use Rattle.chip_words.specs.Channel.{Channel}
 use Rattle.chip_words.specs.Registers.{PC}
-use Rattle.dma_unit.specs.Transfers.{are_quiet, channel_passed, due, due_from, is_quiet, passed}
+use Rattle.dma_unit.specs.Transfers.{are_quiet, due, due_from, is_quiet, passed}
+use Rattle.dma_unit.proofs.Quiet.{nothing_passes}
 use Rattle.power_schedule.specs.declared.powers.Power.TheVariants.{On}
 use Rattle.trace_print.specs.declared.items.TraceItem.{TraceItem}
 use Rattle.trace_print.specs.declared.releases.Item.{Item}
@@ -65,16 +66,6 @@ none_due n (channel ∷ more) quiet =
     let (waits, rests) = and_parts _ _ here in
     rw (not_due channel.waiting _ waits) (none_due (n + 1) more rest)
 
-no_rest : (rest : ℕ) → (rest == 0) ≡ true → rest - 1 ≡ rest
-no_rest rest none = grind (arith, nat_tests)
-
-none_rests : (channels : List Channel) → are_quiet channels ≡ true → map channel_passed channels ≡ channels
-none_rests [] quiet = refl
-none_rests (channel ∷ more) quiet =
-    let (here, rest) = and_parts _ _ quiet in
-    let (waits, rests) = and_parts _ _ here in
-    rw (none_rests more rest) (ap (λ rest. record channel { rest = rest } ∷ more) (no_rest channel.rest rests))
-
 -- The turn.
 
 abbrev pub with_busy : ℕ → State → State
@@ -85,8 +76,8 @@ unfolding owner_of due
 owner_is chip is = rw (is.booted, is.first_tick, none_due 0 _ is.quiet) refl
 
 rests_stay : (chip : State) → IsCalm chip → with_dma passed chip ≡ chip
-unfolding passed
-rests_stay chip is = ap (λ channels. with_dma (λ dma. record dma { channels = channels }) chip) (none_rests _ is.quiet)
+unfolding is_quiet
+rests_stay chip is = ap (λ dma. with_dma (λ _. dma) chip) (nothing_passes ((chip.bus).units).dma is.quiet)
 
 -- a processor that is busy
 abbrev pub IsBusy : State → Type 0

@@ -20,6 +20,7 @@ use crate::{Items, Lines};
 use boot_code::{Boot, BootStep, Keep, image_seal};
 use bus_fabric::Fabric;
 use chip_words::{DEBUG_RESET, NoMemory, PC, POWER_ON, Regs, SOFTWARE_BOR, SR};
+use cpux_extended::KnownWords;
 use elf_image::Image;
 use port_unit::Pins;
 use power_schedule::Power;
@@ -60,6 +61,8 @@ pub struct Chip {
     pub(crate) tick: u32,
     /// How many of the bench's events were done. It spares a search, and any number is right.
     events_done: usize,
+    /// What the words of instructions say that were executed before. It spares a step their decoding.
+    pub(crate) known: KnownWords,
 }
 
 impl Model for Chip {
@@ -88,6 +91,10 @@ impl Chip {
             Err(e) => return Err(e),
         }
         fabric.keep(image_seal(image));
+        let known = match KnownWords::build(alloc) {
+            Ok(known) => known,
+            Err(e) => return Err(e),
+        };
         Ok(Chip {
             fabric,
             regs: Regs::zero(),
@@ -101,6 +108,7 @@ impl Chip {
             second_tick: false,
             tick: 0,
             events_done: 0,
+            known,
         })
     }
 

@@ -187,7 +187,7 @@ impl Chip {
         ensures made { IsStepOf self.new result }
     {
         self.fabric.begin_step();
-        let outcome = step(&mut self.regs, &mut self.fabric);
+        let outcome = step(&mut self.regs, &mut self.fabric, &mut self.known);
         let noted = self.fabric.noted();
         self.end_instruction(outcome);
         Step {

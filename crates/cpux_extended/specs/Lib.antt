@@ -3,3 +3,4 @@ pub mod AddressInstructions
 pub mod Stack
 pub mod Extended
 pub mod Instruction
+pub mod KnownWords

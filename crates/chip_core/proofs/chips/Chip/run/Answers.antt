@@ -1,8 +1,5 @@
-use Rattle.std.proofs.Common.{◌≡◌, ◌∙◌, ◌+◌, ◌<◌, ◌==◌, [], true, false, ap, arith, inl, inr, length, sym}
+use Rattle.std.proofs.Common.{◌∙◌, ap, arith, sym}
 use Rattle.chip_core.proofs.SilentTicks.{are_none, chip_after_more, next_tick, silent_more, told_by_items, told_by_lines}
-use Rattle.chip_core.specs.Run.{IsSilent, chip_after}
-use Rattle.chip_core.specs.Lines.{lines_of}
-use Rattle.chip_core.specs.Items.{items_of}
 use Rattle.chip_core.proofs.chips.Chip.run.Goals.{then-self-end-via-then-self-end, then-self-end-via-else-self-end+then-not-is_empty, then-self-end-via-else-self-end+else-not-is_empty+then-not-is_empty-2}
 use Rattle.chip_core.proofs.chips.Chip.run.Goals as goal
 
