@@ -1,6 +1,6 @@
-ghost use Rattle.std.specs.Prelude.{◌≡◌, ◌≢◌, ◌≤◌, [], ◌∷◌, All, IfOk, length};
-ghost use Rattle.power_schedule.specs.Cuts.{AreOrdered, HaveBegun, IsInReach, most_cuts, schedule_of};
-ghost use Rattle.power_schedule.specs.Powers.{power_at};
+ghost use Rattle.std.specs.Prelude.{◌≡◌, ◌≢◌, ◌↔◌, ◌<◌, ◌≤◌, [], ◌∷◌, All, IfOk, IsTrue, length};
+ghost use Rattle.power_schedule.specs.Cuts.{AreOrdered, HaveBegun, IsInReach, last_tick, most_cuts, schedule_of};
+ghost use Rattle.power_schedule.specs.Powers.{IsOnWithin, no_tick, power_at};
 
 use crate::cuts::Cut;
 use crate::powers::Power;
@@ -57,6 +57,15 @@ impl Schedule {
     {
         power_of(&self.cuts, tick)
     }
+
+    /// The first tick, from one on, in which power isn't on all through, or the greatest number where there is none.
+    pub fn on_until(&self, tick: u32) -> u32
+        ensures least { tick ≤ result }
+        ensures on { IsOnWithin tick result self.now }
+        ensures stops { result < no_tick → power_at self.now result ≢ Power.On }
+    {
+        power_until(&self.cuts, tick)
+    }
 }
 
 /// How many cuts have begun by a tick, which are the first ones.
@@ -88,9 +97,35 @@ fn power_behind(cut: &Cut, tick: u32) -> Power
 {
     if tick == cut.tick {
         Power::Cut(cut.writes)
-    } else if tick - cut.tick <= cut.off {
+    } else if is_within(cut, tick) {
         Power::Off
     } else {
         Power::On
+    }
+}
+
+/// Says whether a tick is within the stretch of a cut that has begun by it.
+#[inline]
+fn is_within(cut: &Cut, tick: u32) -> bool
+    requires begun { (cut.now).tick ≤ tick }
+    ensures { IsTrue result ↔ (tick ≤ last_tick cut.now) }
+{
+    tick - cut.tick <= cut.off
+}
+
+/// The first tick, from one on, in which power isn't on all through, or the greatest number where there is none.
+fn power_until(cuts: &[Cut], tick: u32) -> u32
+    requires { AreOrdered cuts.now }
+    ensures least { tick ≤ result }
+    ensures on { IsOnWithin tick result cuts.now }
+    ensures stops { result < no_tick → power_at cuts.now result ≢ Power.On }
+{
+    let begun = count_begun(cuts, tick);
+    if begun > 0 && is_within(&cuts[begun - 1], tick) {
+        return tick;
+    }
+    match cuts.get(begun) {
+        Some(next) => next.tick,
+        None => u32::MAX,
     }
 }

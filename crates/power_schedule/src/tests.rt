@@ -19,7 +19,11 @@ fn build(rt: &impl Abort, alloc: Global, cuts: &[Cut]) -> Result<Schedule, Sched
 
 #[test]
 fn tells_the_power_of_each_tick(rt: HostRuntime) -> Result<(), Fail> {
-    let schedule = build(&rt, rt.alloc(), &[cut(10, 0, 5), cut(16, 0, 1)])?;
+    let schedule = build(
+        &rt,
+        rt.alloc(),
+        &[cut(10, 0, 5), cut(16, 0, 1), cut(40, 0, 1)],
+    )?;
     for (from, to, want) in [
         (0, 10, Power::On),
         (10, 11, Power::Cut(0)),
@@ -33,8 +37,21 @@ fn tells_the_power_of_each_tick(rt: HostRuntime) -> Result<(), Fail> {
         }
     }
     assert_eq!(rt; schedule.at(u32::MAX), Power::On);
+    for (tick, want) in [
+        (0, 10),
+        (10, 10),
+        (15, 15),
+        (17, 17),
+        (18, 40),
+        (41, 41),
+        (42, u32::MAX),
+        (u32::MAX, u32::MAX),
+    ] {
+        assert_eq!(rt; schedule.on_until(tick), want, "{tick}");
+    }
     let none = build(&rt, rt.alloc(), &[])?;
     assert_eq!(rt; none.at(0), Power::On);
+    assert_eq!(rt; none.on_until(0), u32::MAX);
     let first = build(
         &rt,
         rt.alloc(),

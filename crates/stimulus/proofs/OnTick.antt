@@ -1,9 +1,11 @@
 -- The events of one tick, among events whose ticks don't fall.
-use Rattle.std.proofs.Common.{◌≡◌, ℕ, zero, suc, true, false, ◌==◌, nat_le, nat_lt, ◌-◌, ◌<◌, ◌≤◌, List, [], ◌∷◌, length, get_or, take, drop, refl, sym, ap, arith}
+use Rattle.std.proofs.Common.{◌≡◌, ℕ, zero, suc, true, false, ◌==◌, nat_le, nat_lt, ◌-◌, ◌<◌, ◌≤◌, List, [], ◌∷◌, length, get_or, take, drop, inl, inr, refl, ap, arith}
+use Rattle.std.specs.Prelude.{◌≢◌}
+use Rattle.std.proofs.lemmas.Bool.{cases_Bool}
 use Rattle.std.proofs.lemmas.Bool.Decides.{nat_tests}
 use Rattle.std.specs.List.Sorted.{IsNonDecreasingBy, IsPartitionPoint}
 use Rattle.stimulus.specs.declared.events.Event.{Event}
-use Rattle.stimulus.specs.Events.{IsEnd, IsStart, on_tick}
+use Rattle.stimulus.specs.Events.{HasNoneWithin, IsEnd, IsStart, on_tick}
 
 test_earlier : (a b : ℕ) → a < b → (a == b) ≡ false
 test_earlier a b h = grind (arith, nat_tests)
@@ -97,20 +99,30 @@ none_found tick (e ∷ events) (suc place) before behind =
     let rest = none_found tick events place (λ k d l h. before (suc k) d (omega (arith, l)) (omega (arith, h))) (λ k d l h. behind (suc k) d (omega (arith, l)) (omega (arith, h))) in
     rw (test_earlier e.tick tick (before 0 e (omega arith) (omega arith))) rest
 
--- so it is where the event before a place comes before the tick, and the one at it behind the tick
-pub none_is :
-    (tick : ℕ) (events : List Event) (place : ℕ) → IsNonDecreasingBy (λ (event : Event). event.tick) events →
-    ((d : Event) → 0 < place → (get_or events (place - 1) d).tick < tick) →
-    ((d : Event) → place < length events → tick < (get_or events place d).tick) → place ≤ length events → [] ≡ on_tick tick events
-none_is tick events place sorted before behind within =
-    sym (
-    none_found tick events place
+-- so none stands on a tick behind the one that a place is the start of, up to that of the event at the place
+pub none_within :
+    (tick to : ℕ) (events : List Event) (place : ℕ) → IsNonDecreasingBy (λ (event : Event). event.tick) events →
+    IsStart tick events place → ((d : Event) → place < length events → to ≤ (get_or events place d).tick) → HasNoneWithin tick to events
+none_within tick to events place sorted start next t from below =
+    none_found t events place
     (λ k d l h.
-    let below = sorted k (place - 1) d (omega (arith, l)) (omega (arith, l, within)) in
-    let last = before d (omega (arith, l)) in
+    let before = start.0 k d (omega arith) l in
     omega arith)
     (λ k d l h.
-    let above = sorted place k d (omega arith) (omega arith) in
-    let first = behind d (omega arith) in
+    let above = sorted place k d l h in
+    let first = next d (omega arith) in
     omega arith)
-    )
+
+-- an event stands on its own tick
+pub some_at : (events : List Event) (place : ℕ) (d : Event) → place < length events → on_tick (get_or events place d).tick events ≢ []
+unfolding on_tick
+some_at [] place d within none = absurd (omega arith)
+some_at (e ∷ events) zero d within none =
+    let held = rw (test_now e.tick e.tick (omega arith) (omega arith)) at none in
+    cc
+some_at (e ∷ events) (suc place) d within none = elim (cases_Bool (e.tick == (get_or events place d).tick)) [
+  | inl same ↦
+      let held = rw same at none in
+      cc
+  | inr other ↦ some_at events place d (omega arith) (rw other at none)
+]

@@ -1,5 +1,5 @@
 -- The events of a bench: what one of them is, and which rules hold among them.
-use Rattle.std.specs.Prelude.{ℕ, ◌+◌, ◌-◌, ◌<◌, ◌≤◌, Bool, ◌&&◌, ◌==◌, nat_le, nat_lt, List, [], ◌∷◌, length, filter, codes, Option, Some, None, if◌then◌else◌, option_map, option_and_then}
+use Rattle.std.specs.Prelude.{◌≡◌, ℕ, ◌+◌, ◌-◌, ◌<◌, ◌≤◌, Bool, ◌&&◌, ◌==◌, nat_le, nat_lt, List, [], ◌∷◌, length, filter, codes, Option, Some, None, if◌then◌else◌, option_map, option_and_then}
 use Rattle.std.specs.List.{list_all}
 use Rattle.std.specs.List.Sorted.{IsPartitionPoint}
 use Rattle.toml.specs.Data.{Data, Members, as_str, as_table, get_member}
@@ -103,6 +103,10 @@ event_of end value = option_and_then (event_in end) (as_table value)
 -- the events of one tick
 unfoldable pub on_tick : ℕ → List Event → List Event
 on_tick tick events = filter (λ event. event.tick == tick) events
+
+-- no tick from one up to and without another has an event
+abbrev pub HasNoneWithin : ℕ → ℕ → List Event → Type 0
+HasNoneWithin from to events = (tick : ℕ) → from ≤ tick → tick < to → on_tick tick events ≡ []
 
 -- the first so many events come before a tick, and no other does
 abbrev pub IsStart : ℕ → List Event → ℕ → Type 0

@@ -1,11 +1,13 @@
 -- The bench that a file is: what it has, and why a file is none.
-use Rattle.std.specs.Prelude.{ℕ, ◌<◌, ◌≤◌, ◌^◌, ◌-◌, nat_lt, min, List, [], ◌∷◌, ◌++◌, length, All, codes, Option, Some, None, if◌then◌else◌, option_map, Result, Ok, Err}
+use Rattle.std.specs.Prelude.{◌≡◌, ℕ, ◌<◌, ◌≤◌, ◌^◌, ◌-◌, nat_lt, min, List, [], ◌∷◌, ◌++◌, length, All, codes, Option, Some, None, if◌then◌else◌, option_map, Result, Ok, Err}
 use Rattle.std.specs.List.Sorted.{IsNonDecreasingBy}
 use Rattle.std.specs.Str.{is_utf8}
 use Rattle.toml.specs.Data.{Data, Members, as_array, get_member}
 use Rattle.toml.specs.Parse.{parse_document}
 use Rattle.power_schedule.specs.declared.cuts.Cut.{Cut}
+use Rattle.power_schedule.specs.declared.powers.Power.TheVariants as power
 use Rattle.power_schedule.specs.Cuts.{AreOrdered, most_cuts}
+use Rattle.power_schedule.specs.Powers.{power_at}
 use Rattle.stimulus.specs.declared.events.Event.{Event}
 use Rattle.stimulus.specs.declared.refusals.BenchRefused.{BenchRefused}
 use Rattle.stimulus.specs.declared.refusals.BenchRefused.TheVariants as refused
@@ -50,6 +52,15 @@ pub record IsBench (bench : Stimulus) : Type 0 where
   pub in_range : All IsEvent bench.events
   pub cuts_in_range : All (IsCut bench.end) bench.cuts
   pub cuts_in_order : AreOrdered bench.cuts
+
+-- a tick is plain: power is on all through it, and it has no event
+pub record IsPlainTick (bench : Stimulus) (tick : ℕ) : Type 0 where
+  pub power : power_at bench.cuts tick ≡ power.On
+  pub events : on_tick tick bench.events ≡ []
+
+-- each tick from one up to and without another is plain
+abbrev pub IsPlainWithin : ℕ → ℕ → Stimulus → Type 0
+IsPlainWithin from to bench = (tick : ℕ) → from ≤ tick → tick < to → IsPlainTick bench tick
 
 -- the keys of the root
 abbrev pub root_keys : List (List ℕ)

@@ -1,13 +1,13 @@
 ghost use Rattle.std.specs.Prelude.{◌≡◌, ◌≤◌, ◌<◌, [], All, IfOk, IsTrue, OnErr, OnOk, length};
 ghost use Rattle.power_schedule.specs.Cuts.{AreOrdered, most_cuts};
-ghost use Rattle.power_schedule.specs.Powers.{power_at};
+ghost use Rattle.power_schedule.specs.Powers.{no_tick, power_at};
 ghost use Rattle.stimulus.specs.Cuts.{IsCut};
 ghost use Rattle.stimulus.specs.Events.{IsEvent, may_follow, most_on_tick, on_tick};
-ghost use Rattle.stimulus.specs.Stimulus.{IsBench, greatest_end, with_event};
+ghost use Rattle.stimulus.specs.Stimulus.{IsBench, IsPlainTick, IsPlainWithin, greatest_end, with_event};
 
 use crate::EVENTS_PER_TICK;
 use crate::cuts::build_schedule;
-use crate::events::{Event, events_on_tick, none_after};
+use crate::events::{Event, events_on_tick, none_after, none_until};
 use chip_words::NoMemory;
 use power_schedule::{Cut, Power, Schedule};
 use std::alloc::Global;
@@ -96,6 +96,18 @@ impl Bench {
         ensures in_range { All IsEvent result.now }
     {
         events_on_tick(&self.events, tick, done)
+    }
+
+    /// The first tick, from one on, that isn't plain: power isn't on all through it, or it has an event. Where there is
+    /// none, the greatest number. `done` as in `next_events`.
+    pub fn plain_until(&self, tick: u32, done: usize) -> u32
+        ensures least { tick ≤ result }
+        ensures plain { IsPlainWithin tick result self.now }
+        ensures stops { result < no_tick → ¬ IsPlainTick self.now result }
+    {
+        let on = self.schedule.on_until(tick);
+        let none = none_until(&self.events, tick, done);
+        on.min(none)
     }
 
     /// Says whether an event may stand behind those that the bench has.

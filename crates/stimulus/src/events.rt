@@ -1,7 +1,8 @@
-ghost use Rattle.std.specs.Prelude.{◌≡◌, ◌-◌, ◌<◌, ◌≤◌, IsTrue, get_or, length};
+ghost use Rattle.std.specs.Prelude.{◌≡◌, ◌≢◌, ◌-◌, ◌<◌, ◌≤◌, [], IsTrue, get_or, length};
 ghost use Rattle.std.specs.List.{AllWithin};
 ghost use Rattle.std.specs.List.Sorted.{IsNonDecreasingBy};
-ghost use Rattle.stimulus.specs.Events.{IsEnd, IsStart, none_after, on_tick};
+ghost use Rattle.power_schedule.specs.Powers.{no_tick};
+ghost use Rattle.stimulus.specs.Events.{HasNoneWithin, IsEnd, IsStart, none_after, on_tick};
 
 use debug_port::Command;
 
@@ -76,34 +77,9 @@ fn count_up_to(events: &[Event], tick: u32) -> usize
     }
 }
 
-/// Says whether the event behind so many comes behind a tick, where there is one.
-#[inline]
-fn is_later_from(events: &[Event], count: usize, tick: u32) -> bool
-    ensures next { IsTrue result → (d : Event) → count < length events.now
-        → tick < (get_or events.now count d).tick }
-{
-    match events.get(count) {
-        Some(next) => tick < next.tick,
-        None => true,
-    }
-}
-
 /// The events of one tick, of events whose ticks don't fall. `done` is how many come before it, if it is right, and then
-/// how many come up to it. Mostly it is right, and the tick has none.
-#[inline(always)]
+/// how many come up to it.
 pub fn events_on_tick<'a>(events: &'a [Event], tick: u32, done: &mut usize) -> &'a [Event]
-    requires { IsNonDecreasingBy (λ (event : Event). event.tick) events.now }
-    ensures { result.now ≡ on_tick tick events.now }
-{
-    if ends_before(events, *done, tick) && is_later_from(events, *done, tick) {
-        return &events[..0];
-    }
-    find_on_tick(events, tick, done)
-}
-
-/// The events of one tick, which are searched for where `done` isn't how many come before it.
-#[inline(never)]
-fn find_on_tick<'a>(events: &'a [Event], tick: u32, done: &mut usize) -> &'a [Event]
     requires { IsNonDecreasingBy (λ (event : Event). event.tick) events.now }
     ensures { result.now ≡ on_tick tick events.now }
 {
@@ -112,6 +88,20 @@ fn find_on_tick<'a>(events: &'a [Event], tick: u32, done: &mut usize) -> &'a [Ev
     let count = count_up_to(rest, tick);
     *done = start + count;
     &rest[..count]
+}
+
+/// The first tick, from one on, that has an event, of events whose ticks don't fall, or the greatest number where there
+/// is none. `done` is how many come before it, if it is right.
+pub fn none_until(events: &[Event], tick: u32, done: usize) -> u32
+    requires { IsNonDecreasingBy (λ (event : Event). event.tick) events.now }
+    ensures least { tick ≤ result }
+    ensures none { HasNoneWithin tick result events.now }
+    ensures stops { result < no_tick → on_tick result events.now ≢ [] }
+{
+    match events.get(count_before(events, tick, done)) {
+        Some(next) => next.tick,
+        None => u32::MAX,
+    }
 }
 
 /// Says whether none of the events, whose ticks don't fall, comes after a tick.

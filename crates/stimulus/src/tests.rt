@@ -348,6 +348,11 @@ fn reads_cuts(rt: HostRuntime) -> Result<(), Fail> {
         tick = 29
         writes = 1
         off = 10000000
+
+        [[event]]
+        tick = 20
+        pin = 'P1.3'
+        level = 0
     ";
     let bench = read_bench(rt.alloc(), text.as_bytes())?;
     for (from, to, want) in [
@@ -361,6 +366,20 @@ fn reads_cuts(rt: HostRuntime) -> Result<(), Fail> {
     ] {
         for tick in from..to {
             assert_eq!(rt; bench.power(tick), want, "{tick}");
+        }
+    }
+    for (tick, want) in [
+        (0, 10),
+        (12, 12),
+        (17, 17),
+        (18, 20),
+        (20, 20),
+        (21, 29),
+        (10_000_029, 10_000_029),
+        (10_000_030, u32::MAX),
+    ] {
+        for done in 0..3 {
+            assert_eq!(rt; bench.plain_until(tick, done), want, "{tick} {done}");
         }
     }
     assert_eq!(rt; bench.events(12), [pin(12, 1, 3, true)].as_slice());
