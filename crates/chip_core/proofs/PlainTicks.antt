@@ -1,42 +1,28 @@
 -- What a plain tick leaves, shows, and gives away: what its stages from the bus owner's turn on do.
-use Rattle.std.proofs.Common.{◌≡◌, ◌∙◌, ◌==◌, true, List, [], ◌∷◌, ◌++◌, length, refl, sym, ap, arith}
+use Rattle.std.proofs.Common.{◌≡◌, ◌∙◌, ℕ, ◌<◌, true, List, [], ◌++◌, refl, sym, ap, arith}
 use Rattle.std.specs.Prelude.{Option, Some, None}
-use Rattle.std.proofs.lemmas.Bool.{and_parts}
 use Rattle.boot_code.specs.Place.{Place}
-use Rattle.power_schedule.specs.declared.powers.Power.{Power}
-use Rattle.power_schedule.specs.declared.powers.Power.TheVariants.{On, Cut, Off}
-use Rattle.stimulus.specs.declared.events.Event.{Event}
+use Rattle.power_schedule.specs.declared.powers.Power.TheVariants.{On}
 use Rattle.stimulus.specs.Events.{on_tick}
-use Rattle.stimulus.specs.Stimulus.{Stimulus}
+use Rattle.stimulus.specs.Stimulus.{IsPlainWithin, Stimulus}
 use Rattle.trace_print.specs.declared.items.TraceItem.{TraceItem}
-use Rattle.chip_core.specs.Idle.{given_from, is_on, is_plain, plainly_ticked, shown_from, started}
+use Rattle.chip_core.specs.Idle.{given_from, plainly_ticked, shown_from, started}
 use Rattle.chip_core.specs.Items.{items_of, stages_items}
 use Rattle.chip_core.specs.Lines.{events_lines, lines_at, lines_of, power_lines, stage_lines, stimulus_lines}
 use Rattle.chip_core.specs.Pins.{pin_lines, pins_of}
 use Rattle.chip_core.specs.State.{State}
 use Rattle.chip_core.specs.Tick.{Moments, after_events, begun_by, behind_tick, clocked, moments, moments_from, power_of, powered, stages, stages_from, stimulated, supplied, ticked, timed}
 
--- What it says, one by one.
-
-power_is_on : (power : Power) → is_on power ≡ true → power ≡ On
-power_is_on On h = refl
-power_is_on (Cut writes) h = grind (arith, h)
-power_is_on Off h = grind (arith, h)
-
-nothing_comes : (events : List Event) → (length events == 0) ≡ true → events ≡ []
-nothing_comes [] h = refl
-nothing_comes (event ∷ events) h = grind (arith, h)
-
+-- power is on before the tick, and in it, and the bench has no event for it
 record IsPlain (bench : Stimulus) (chip : State) : Type 0 where
   powered : chip.powered ≡ true
   power : power_of bench chip ≡ On
   events : on_tick chip.tick bench.events ≡ []
 
-plain : (bench : Stimulus) (chip : State) → is_plain bench chip ≡ true → IsPlain bench chip
-plain bench chip h =
-    let (on, events) = and_parts _ _ h in
-    let (powered, power) = and_parts _ _ on in
-    record { powered = powered; power = power_is_on _ power; events = nothing_comes _ events }
+plain : (until : ℕ) (bench : Stimulus) (chip : State) → chip.powered ≡ true → chip.tick < until → IsPlainWithin chip.tick until bench → IsPlain bench chip
+plain until bench chip powered before within =
+    let tick = within chip.tick (omega arith) before in
+    record { powered = powered; power = tick.power; events = tick.events }
 
 -- The moments.
 
@@ -65,10 +51,10 @@ moments_are bench chip is =
 
 -- What they leave, show, and give away.
 
-pub plain_chip : (bench : Stimulus) (chip : State) → is_plain bench chip ≡ true → plainly_ticked chip ≡ ticked bench chip
+pub plain_chip : (until : ℕ) (bench : Stimulus) (chip : State) → chip.powered ≡ true → chip.tick < until → IsPlainWithin chip.tick until bench → plainly_ticked chip ≡ ticked bench chip
 unfolding ticked
-plain_chip bench chip h =
-    sym (ap (λ (tick : Moments). behind_tick chip.tick (tick.stages).after) (moments_are bench chip (plain bench chip h)))
+plain_chip until bench chip powered before within =
+    sym (ap (λ (tick : Moments). behind_tick chip.tick (tick.stages).after) (moments_are bench chip (plain until bench chip powered before within)))
 
 no_event_line : (bench : Stimulus) (chip : State) → IsPlain bench chip → stimulus_lines bench (begun_by On chip) ≡ []
 unfolding stimulus_lines
@@ -96,13 +82,13 @@ shows bench chip is =
     ∙ ap (λ pins. stage_lines On (stages_from On (started chip)) ++ pin_lines pins (pins_of (stages_from On (started chip)).after))
     (sym (pins_start chip))
 
-pub plain_lines : (bench : Stimulus) (chip : State) → is_plain bench chip ≡ true → shown_from (started chip) ≡ lines_of bench chip
+pub plain_lines : (until : ℕ) (bench : Stimulus) (chip : State) → chip.powered ≡ true → chip.tick < until → IsPlainWithin chip.tick until bench → shown_from (started chip) ≡ lines_of bench chip
 unfolding lines_of
-plain_lines bench chip h =
-    let is = plain bench chip h in
+plain_lines until bench chip powered before within =
+    let is = plain until bench chip powered before within in
     sym (ap (lines_at bench) (moments_are bench chip is) ∙ shows bench chip is)
 
-pub plain_items : (bench : Stimulus) (chip : State) → is_plain bench chip ≡ true → given_from (started chip) ≡ items_of bench chip
+pub plain_items : (until : ℕ) (bench : Stimulus) (chip : State) → chip.powered ≡ true → chip.tick < until → IsPlainWithin chip.tick until bench → given_from (started chip) ≡ items_of bench chip
 unfolding items_of
-plain_items bench chip h =
-    sym (ap (λ (tick : Moments). stages_items tick.power tick.stages) (moments_are bench chip (plain bench chip h)))
+plain_items until bench chip powered before within =
+    sym (ap (λ (tick : Moments). stages_items tick.power tick.stages) (moments_are bench chip (plain until bench chip powered before within)))

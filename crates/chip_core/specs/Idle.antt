@@ -1,17 +1,14 @@
 -- Ticks in which power stays on and no event comes, and among them those in which the processor waits.
-use Rattle.std.specs.Prelude.{◌≡◌, ◌==◌, ◌&&◌, ◌||◌, ◌++◌, not, Bool, true, false, List, is_none, length, nat_lt}
+use Rattle.std.specs.Prelude.{◌≡◌, ◌&&◌, ◌||◌, ◌++◌, not, Bool, false, List, is_none, nat_lt}
 use Rattle.dma_unit.specs.Transfers.{is_quiet as is_dma_quiet}
-use Rattle.power_schedule.specs.declared.powers.Power.{Power}
 use Rattle.power_schedule.specs.declared.powers.Power.TheVariants.{On}
-use Rattle.stimulus.specs.Events.{on_tick}
-use Rattle.stimulus.specs.Stimulus.{Stimulus}
 use Rattle.trace_print.specs.declared.items.TraceItem.{TraceItem}
 use Rattle.trace_print.specs.declared.releases.Item.{Item}
 use Rattle.chip_core.specs.Items.{stages_items}
 use Rattle.chip_core.specs.Lines.{stage_lines}
 use Rattle.chip_core.specs.Pins.{pin_lines, pins_of}
 use Rattle.chip_core.specs.State.{State}
-use Rattle.chip_core.specs.Tick.{begun_by, behind_tick, power_of, stages_from, taken_cause, timed}
+use Rattle.chip_core.specs.Tick.{begun_by, behind_tick, stages_from, taken_cause, timed}
 use Rattle.chip_core.specs.Turns.{accepted_by, is_off}
 
 -- neither a boot, nor DMA, nor a reset is due
@@ -35,15 +32,7 @@ pub record IsFree (chip : State) : Type 0 where
   pub going_on : chip.pending ≡ false
   pub running : (chip.halted || chip.dead) ≡ false
 
-abbrev pub is_on : Power → Bool
-is_on On = true
-is_on power = false
-
--- the next tick is plain: power stays on in it, and the bench has no event for it
-abbrev pub is_plain : Stimulus → State → Bool
-is_plain bench chip = chip.powered && is_on (power_of bench chip) && length (on_tick chip.tick bench.events) == 0
-
--- What is left of such a tick.
+-- What is left of a tick that is plain, where power was on before it.
 
 -- the chip when its bus owner acts
 abbrev pub started : State → State

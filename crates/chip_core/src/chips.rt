@@ -3,10 +3,11 @@ ghost use Rattle.arrayvec.specs.ArrayVec.{array_vec_len};
 ghost use Rattle.trace_print.specs.Lines.{IsPrintable};
 ghost use Rattle.power_schedule.specs.declared.powers.Power.TheVariants.{On};
 ghost use Rattle.stimulus.specs.Events.{IsAct};
+ghost use Rattle.stimulus.specs.Stimulus.{IsPlainWithin};
 ghost use Rattle.chip_words.specs.Bits.{has_bit};
 ghost use Rattle.chip_words.specs.Causes.{is_of_bor as is_of_bor_cause};
 ghost use Rattle.chip_words.specs.Registers.{SR as STATUS};
-ghost use Rattle.chip_core.specs.Idle.{IsFree, given_from, is_plain, is_undisturbed, plainly_ticked, shown_from, started};
+ghost use Rattle.chip_core.specs.Idle.{IsFree, given_from, is_undisturbed, plainly_ticked, shown_from, started};
 ghost use Rattle.chip_core.specs.FirstState.{first_state};
 ghost use Rattle.chip_core.specs.Items.{IsItem, items_of, stages_items};
 ghost use Rattle.chip_core.specs.Lines.{event_lines, halted_since, lines_of, lines_with_power, power_lines, stage_lines, stimulus_lines};
@@ -138,14 +139,22 @@ impl Chip {
     {
         lines.clear();
         items.clear();
-        self.tick_more(bench, lines, items);
+        let until = bench.plain_until(self.tick, self.events_done);
+        self.tick_until(until, bench, lines, items);
     }
 
-    /// Does the next tick, where no line and no item stands yet.
+    /// Does the next tick, where no line and no item stands yet, and the ticks from it on are plain up to `until`.
     #[inline(always)]
     #[tactic(auto, using(crate::proofs::PlainTicks::plain_chip, crate::proofs::PlainTicks::plain_lines, crate::proofs::PlainTicks::plain_items))]
-    pub(crate) fn tick_more(&mut self, bench: &Bench, lines: &mut Lines, items: &mut Items)
+    pub(crate) fn tick_until(
+        &mut self,
+        until: u32,
+        bench: &Bench,
+        lines: &mut Lines,
+        items: &mut Items,
+    )
         requires tick { (self.old).tick < 10000000 }
+        requires plain { IsPlainWithin (self.old).tick until bench.now }
         requires no_line { lines.old.items ≡ [] }
         requires no_item { items.old.items ≡ [] }
         ensures chip { self.new ≡ ticked bench.now self.old }
@@ -154,22 +163,24 @@ impl Chip {
         ensures printable { All IsPrintable lines.new.items }
         ensures given { All IsItem items.new.items }
     {
-        if self.is_plain(bench) {
+        if self.powered && self.tick < until {
             self.tick_plainly(lines, items);
         } else {
             self.tick_whole(bench, lines, items);
         }
     }
 
-    /// Says whether power stays on in the next tick, and the bench has no event for it.
-    #[inline]
-    fn is_plain(&self, bench: &Bench) -> bool
-        ensures { result ≡ is_plain bench.now self.now }
+    /// A tick up to which those from the next one on are plain: the first that isn't, where no later one is known.
+    #[inline(always)]
+    pub(crate) fn plain_until(&self, known: u32, bench: &Bench) -> u32
+        requires { IsPlainWithin (self.now).tick known bench.now }
+        ensures plain { IsPlainWithin (self.now).tick result bench.now }
     {
-        let mut done = self.events_done;
-        self.powered
-            && matches!(bench.power(self.tick), Power::On)
-            && bench.next_events(self.tick, &mut done).is_empty()
+        if self.tick < known {
+            known
+        } else {
+            bench.plain_until(self.tick, self.events_done)
+        }
     }
 
     /// Does the next tick, which is plain.

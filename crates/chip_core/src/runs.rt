@@ -32,8 +32,10 @@ impl Chip {
         lines.clear();
         items.clear();
         let mut done = 0;
+        let mut until = self.tick;
         loop {
-            self.tick_more(bench, lines, items);
+            until = self.plain_until(until, bench);
+            self.tick_until(until, bench, lines, items);
             done += 1;
             if self.tick == end || !lines.is_empty() || !items.is_empty() {
                 return done;
