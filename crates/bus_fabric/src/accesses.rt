@@ -244,7 +244,7 @@ impl Bus for Fabric {
 
     ghost part = { bus_part_of };
 
-    #[inline(never)]
+    #[inline(always)]
     #[tactic(auto, unfolding(chip_words::specs::Access::access))]
     fn fetch(&mut self, ia: u32, at: u32) -> u16 {
         let at = aligned(at, Size::Word);

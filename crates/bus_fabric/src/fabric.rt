@@ -122,7 +122,7 @@ impl Fabric {
     }
 
     /// Ends a step: each place that was noted sets its flag, and asks for a reset or for the NMI.
-    #[inline]
+    #[inline(always)]
     pub fn end_step(&mut self)
         ensures step { Changes step_ended self.old self.new }
     {
@@ -132,6 +132,7 @@ impl Fabric {
     }
 
     /// Ends a step in which a place was noted.
+    #[inline(never)]
     #[tactic(auto, unfolding(chip_words::specs::Steps::ended_with))]
     fn end_violations(&mut self)
         ensures step { Changes step_ended self.old self.new }

@@ -7,7 +7,8 @@ use crate::Lines;
 use port_unit::Pins;
 use trace_print::TraceItem;
 
-/// Adds the lines of the ports whose levels changed.
+/// Adds the lines of the ports whose levels changed. Mostly none did.
+#[inline(always)]
 #[tactic(auto, using(crate::proofs::SamePins::no_lines))]
 pub fn tell_changes(before: Pins, now: Pins, lines: &mut Lines)
     requires room { array_vec_len lines.old ≤ 28 }
@@ -15,9 +16,19 @@ pub fn tell_changes(before: Pins, now: Pins, lines: &mut Lines)
     ensures lines { lines.new.items ≡ lines.old.items ++ pin_lines before now }
     ensures printable { All IsPrintable lines.new.items }
 {
-    if before == now {
-        return;
+    if before != now {
+        tell_ports(before, now, lines);
     }
+}
+
+/// Adds the lines of the ports, of which some pin changed.
+#[inline(never)]
+fn tell_ports(before: Pins, now: Pins, lines: &mut Lines)
+    requires room { array_vec_len lines.old ≤ 28 }
+    requires printable { All IsPrintable lines.old.items }
+    ensures lines { lines.new.items ≡ lines.old.items ++ pin_lines before now }
+    ensures printable { All IsPrintable lines.new.items }
+{
     tell_port(1, before, now, lines);
     tell_port(2, before, now, lines);
     tell_port(3, before, now, lines);

@@ -28,6 +28,7 @@ pub use two_operands::perform_two;
 
 /// Does an instruction whose words were fetched. `pc` is behind its first word, and PC in the registers is the next
 /// address. A reserved word does nothing.
+#[inline(always)]
 #[tactic(auto, unfolding(crate::specs::Execution::performed))]
 fn perform<B: Bus>(regs: &mut Regs, bus: &mut B, ia: u32, pc: u32, d: &Decoded)
     requires row { IsShort d.now }
@@ -66,6 +67,7 @@ fn perform<B: Bus>(regs: &mut Regs, bus: &mut B, ia: u32, pc: u32, d: &Decoded)
 ///
 /// The cycles are those without waits. `ia` is the address of its first word, and `next` that behind its words, to which
 /// PC is set first. It makes at most three accesses.
+#[inline(always)]
 #[tactic(auto, using(chip_words::proofs::Runs::run_then), unfolding(crate::specs::Execution::executed))]
 pub fn execute_timed<B: Bus>(
     regs: &mut Regs,

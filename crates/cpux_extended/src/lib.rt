@@ -106,6 +106,7 @@ fn execute_words<B: Bus>(
 }
 
 /// Fetches the words behind the first two, and executes the instruction that they begin. `look` is what they tell.
+#[inline(never)]
 #[tactic(auto, unfolding(crate::specs::Instruction::of_two_words))]
 fn execute_two_words<B: Bus>(
     regs: &mut Regs,
@@ -219,6 +220,7 @@ fn execute_behind_extension<B: Bus>(regs: &mut Regs, bus: &mut B, w0: u16, ia: u
 ///
 /// It makes all its accesses, the fetches first. After a reserved word nothing but fetches was done, and PC stands.
 /// `known` spares work where the words were executed before, and whatever it holds, the step does the same.
+#[inline(always)]
 #[tactic(auto, unfolding(crate::specs::Instruction::instruction))]
 pub fn step<B: Bus>(regs: &mut Regs, bus: &mut B, known: &mut KnownWords) -> Outcome
     requires empty { (B.part bus.old).accesses ≡ [] }
