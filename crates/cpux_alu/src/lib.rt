@@ -62,7 +62,7 @@ fn two_operands(op: Op2, size: Size, src: u32, dst: u32, carry: bool) -> Effect
         Op2::Bic => without_flags(dst & complement(size, src)),
         Op2::Bis => without_flags(dst | src),
         Op2::Xor => {
-            let negative = is_negative(size, dst) && is_negative(size, src);
+            let negative = is_negative(size, dst) & is_negative(size, src);
             with_logic_flags(size, dst ^ src, negative)
         }
     }

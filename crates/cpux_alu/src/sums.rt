@@ -19,8 +19,9 @@ pub fn sum(size: Size, x: u32, y: u32, carry: bool) -> Effect
     let total = x + y + carry as u32;
     let value = total & mask(size);
     let sign = is_negative(size, x);
-    // The exact sum leaves the range where two numbers of one sign give the other sign.
-    let overflow = sign == is_negative(size, y) && sign != is_negative(size, value);
+    // The exact sum leaves the range where two numbers of one sign give the other sign. The host has no branch to guess
+    // here: what a program sums is as good as random.
+    let overflow = (sign == is_negative(size, y)) & (sign != is_negative(size, value));
     with_flags(size, value, total > mask(size), overflow)
 }
 
