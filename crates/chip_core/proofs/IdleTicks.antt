@@ -199,6 +199,10 @@ stepless_items items chip undisturbed rested stands none = none ∙ (stepless_id
 
 -- What a turn in public phase leaves, shows, and gives away.
 
+not_first : (a b : Bool) → (a || b) ≡ false → a ≡ false
+not_first false b none = refl
+not_first true b none = none
+
 free_is : (chip : State) → IsFree chip → processor_turn chip ≡ free_turn (accepted_by chip) chip
 unfolding processor_turn
 free_is chip is = rw (is.rested, is.going_on, is.running) refl
@@ -211,9 +215,12 @@ free_after chip undisturbed free = sym (ap (λ (all : Stages). all.after) (free_
 
 pub free_lines :
     (chip : State) → is_undisturbed chip ≡ true → IsFree chip →
-    lines_with_power chip.halted None (free_turn (accepted_by chip) chip).chip (reset (free_turn (accepted_by chip) chip).chip)
+    lines_with_power false None (free_turn (accepted_by chip) chip).chip (reset (free_turn (accepted_by chip) chip).chip)
     ≡ stage_lines On (stages_from On chip)
-free_lines chip undisturbed free = sym (ap (stage_lines On) (free_stages chip undisturbed free))
+free_lines chip undisturbed free =
+    let unhalted = not_first chip.halted chip.dead free.running in
+    ap (λ halted. lines_with_power halted None (free_turn (accepted_by chip) chip).chip (reset (free_turn (accepted_by chip) chip).chip)) (sym unhalted)
+    ∙ sym (ap (stage_lines On) (free_stages chip undisturbed free))
 
 -- a step in public phase has no item
 public_step : (start : Start) (step : Option Step) (after : State) → start.private ≡ false → step_items On start step after ≡ []

@@ -251,9 +251,8 @@ impl Chip {
         ensures count { array_vec_len lines.new ≤ 13 }
         ensures printable { All IsPrintable lines.new.items }
     {
-        let was_halted = self.halted;
         self.turn_freely();
-        self.end_stages(was_halted, None, lines);
+        self.end_stages(false, None, lines);
     }
 
     /// Does the stages from the bus owner's turn on, whoever it is.

@@ -27,6 +27,7 @@ pub fn above(at: u32) -> u32
 }
 
 /// The value of register `n`, 0 to 15, where PC stands at `pc`.
+#[inline(always)]
 pub fn register(regs: &Regs, pc: u32, n: u8) -> u32
     requires register { n < 16 }
     requires pc { pc < 0x100000 }
@@ -39,6 +40,7 @@ pub fn register(regs: &Regs, pc: u32, n: u8) -> u32
 /// The address of an operand in memory, whose index word is at `pc` (SLAU367, chapter CPUX, addressing modes).
 ///
 /// An operand that isn't in memory has the address 0.
+#[inline(always)]
 #[tactic(auto, unfolding(crate::specs::Operands::address_of))]
 pub fn address(regs: &Regs, pc: u32, place: Place) -> u32
     requires place { IsPlace place }
@@ -56,6 +58,7 @@ pub fn address(regs: &Regs, pc: u32, place: Place) -> u32
 }
 
 /// Reads an operand in memory for the instruction at `ia`: a byte, a word, or two words for 20 bits.
+#[inline(always)]
 #[tactic(auto, unfolding(crate::specs::Operands::asked))]
 pub fn load<B: Bus>(bus: &mut B, ia: u32, at: u32, size: Size) -> u32
     requires at { at < 0x100000 }
@@ -76,6 +79,7 @@ pub fn load<B: Bus>(bus: &mut B, ia: u32, at: u32, size: Size) -> u32
 }
 
 /// Writes an operand in memory for the instruction at `ia`: a byte, a word, or two words for 20 bits.
+#[inline(always)]
 #[tactic(auto, unfolding(crate::specs::Operands::put))]
 pub fn put<B: Bus>(bus: &mut B, ia: u32, at: u32, size: Size, value: u32)
     requires at { at < 0x100000 }

@@ -12,6 +12,7 @@ use cpux_alu::two;
 use cpux_decode::{Op2, PC, Place, SR};
 
 /// Reads the destination, unless the operation doesn't.
+#[inline(always)]
 #[tactic(auto, unfolding(crate::specs::TwoOperands::two_target))]
 fn read_destination<B: Bus>(
     regs: &Regs,
@@ -37,6 +38,7 @@ fn read_destination<B: Bus>(
 }
 
 /// Writes the result, unless the operation doesn't.
+#[inline(always)]
 #[tactic(auto, unfolding(crate::specs::TwoOperands::two_store))]
 fn write_destination<B: Bus>(
     regs: &mut Regs,
