@@ -11,6 +11,7 @@ use Rattle.chip_core.specs.FirstState.{first_state}
 use Rattle.chip_core.specs.Items.{items_of}
 use Rattle.chip_core.specs.Run.{AreSilent, IsSilent, chip_after}
 use Rattle.chip_core.specs.Tick.{ticked}
+use Rattle.chip_core.proofs.SilentTicks.{next_tick}
 use Rattle.capsule.specs.Ticks.{text_of_ticks}
 use Rattle.capsule.specs.declared.runs.Report.{Report}
 use Rattle.capsule.specs.declared.runs.Report.TheVariants.{Trace, Releases}
@@ -54,14 +55,6 @@ module _ (tick_text : Stimulus → ℕ → State → List ℕ) where
       let e : end - n ≡ zero = omega arith in
       rw e (sym (append-nil last))
 
--- one tick more of a run
-pub chip_after-more : (tick : ℕ) (bench : Stimulus) (first chip after : State) → chip ≡ chip_after tick bench first → after ≡ ticked bench chip → after ≡ chip_after (tick + 1) bench first
-chip_after-more tick bench first chip after c t = rw add-one (t ∙ ap (λ (state : State). ticked bench state) c)
-
-pub ticked-tick : (bench : Stimulus) (chip : State) → (ticked bench chip).tick ≡ chip.tick + 1
-unfolding ticked
-ticked-tick bench chip = refl
-
 -- so many ticks behind others
 pub later : (n m : ℕ) (bench : Stimulus) (first : State) → chip_after n bench (chip_after m bench first) ≡ chip_after (m + n) bench first
 later zero m bench first = let e : m ≡ m + 0 = omega arith in ap (λ k. chip_after k bench first) e
@@ -77,7 +70,7 @@ pub run_tick : (n : ℕ) (bench : Stimulus) (chip : State) → (chip_after n ben
 run_tick zero bench chip = omega arith
 run_tick (suc n) bench chip =
     let before = run_tick n bench chip in
-    let last = ticked-tick bench (chip_after n bench chip) in
+    let last = next_tick bench (chip_after n bench chip) (ticked bench (chip_after n bench chip)) refl in
     omega arith
 
 -- what silent ticks add
