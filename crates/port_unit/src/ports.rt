@@ -1,4 +1,4 @@
-ghost use Rattle.std.specs.Prelude.{◌≡◌, ◌<◌, ◌≤◌, ◌+◌, ◌^◌, Some, None, is_some};
+ghost use Rattle.std.specs.Prelude.{◌≡◌, ◌<◌, ◌≤◌, ◌+◌, ◌^◌, Some, None, false, is_some};
 ghost use Rattle.chip_words.specs.Addresses.{register_address, unit_at};
 ghost use Rattle.chip_words.specs.Bits.{bit_word, part_of};
 ghost use Rattle.chip_words.specs.InterruptLines.{P4_LINE as LAST_LINE};
@@ -17,35 +17,47 @@ use std::marker::Model;
 pub struct Ports {
     first: PortPair,
     second: PortPair,
+    /// The pins while they aren't locked. Each step asks for them twice, and few writes change them, so they are kept.
+    shown: Pins,
 }
 
 impl Model for Ports {
+    ghost use Rattle.std.specs.Prelude.{◌≡◌, false};
+    ghost use Rattle.chip_words.specs.Ports.{Ports as PortRegisters};
+    ghost use Rattle.port_unit.specs.Pins.{pins_of};
+
     ghost Value = { PortRegisters };
 
     ghost view = { λ p. record { first = p.first; second = p.second } };
+
+    ghost invariant = { λ p. p.shown ≡ pins_of (record { first = p.first; second = p.second }) false };
 }
 
 impl Ports {
     /// All registers and all external levels 0.
+    #[tactic(auto, unfolding(crate::specs::Pins::pins_of))]
     pub fn new() -> Ports
         ensures { result ≡ first_ports }
     {
         Ports {
             first: PortPair::new(),
             second: PortPair::new(),
+            shown: Pins { driven: 0, high: 0 },
         }
     }
 
     /// The unit's part of a reset: a BOR and a PUC do the same here.
+    #[tactic(auto, unfolding(crate::specs::Pins::pins_of))]
     pub fn reset(&mut self, _bor: bool)
         ensures { self.new ≡ ports_at_reset self.old }
     {
         self.first.reset();
         self.second.reset();
+        self.shown = Pins { driven: 0, high: 0 };
     }
 
     /// Reads at an address of this unit; `locked` is LOCKLPM5.
-    #[tactic(auto, using(chip_words::proofs::Addresses::in_ports), unfolding(chip_words::specs::Ports::ports_word, chip_words::specs::Ports::ports_touched))]
+    #[tactic(auto, using(chip_words::proofs::Addresses::in_ports), unfolding(crate::specs::Pins::pins_of, chip_words::specs::Ports::ports_word, chip_words::specs::Ports::ports_touched))]
     pub fn read(&mut self, at: u32, size: Size, locked: bool) -> u32
         requires unit { unit_at at ≡ Some UnitName.Ports }
         requires width { IsByteOrWord size }
@@ -77,11 +89,12 @@ impl Ports {
         } else {
             self.second.write(at - PBIN, size, value);
         }
+        self.shown = find_shown(&self.first, &self.second);
         None
     }
 
     /// Sets the external level of pin `bit`, 0 to 7, of a port, 1 to 4; `locked` is LOCKLPM5.
-    #[tactic(auto, unfolding(chip_words::specs::Ports::driven))]
+    #[tactic(auto, unfolding(crate::specs::Pins::pins_of, chip_words::specs::Ports::driven))]
     pub fn drive(&mut self, port: u8, bit: u8, level: bool, locked: bool)
         requires port { (1 ≤ port) × (port ≤ 4) }
         requires bit { bit < 8 }
@@ -100,14 +113,10 @@ impl Ports {
     pub fn pins(&self, locked: bool) -> Pins
         ensures { result ≡ pins_of self.now locked }
     {
-        let driven = if locked {
-            0
+        if locked {
+            Pins { driven: 0, high: 0 }
         } else {
-            joined(self.first.dir(), self.second.dir())
-        };
-        Pins {
-            driven,
-            high: joined(self.first.out(), self.second.out()) & driven,
+            self.shown
         }
     }
 
@@ -144,6 +153,18 @@ impl Ports {
             + line(P2_LINE, self.first.waiting(HIGH_PORT))
             + line(P3_LINE, self.second.waiting(LOW_PORT))
             + line(P4_LINE, self.second.waiting(HIGH_PORT))
+    }
+}
+
+/// Asks each pair. It takes the pairs alone, since the unit isn't whole before the answer is kept.
+#[tactic(auto, unfolding(crate::specs::Pins::pins_of))]
+fn find_shown(first: &PortPair, second: &PortPair) -> Pins
+    ensures { result ≡ pins_of (record { first = first.now; second = second.now }) false }
+{
+    let driven = joined(first.dir(), second.dir());
+    Pins {
+        driven,
+        high: joined(first.out(), second.out()) & driven,
     }
 }
 
