@@ -1,7 +1,8 @@
-ghost use Rattle.std.specs.Prelude.{◌≡◌, ◌<◌, ◌%◌, IfSome, Some};
+ghost use Rattle.std.specs.Prelude.{◌≡◌, ◌<◌, ◌%◌, IfSome, Some, true};
 ghost use Rattle.chip_words.specs.Addresses.{MPUCTL0 as MPUCTL0_ADDRESS, SYSSNIV as SYSSNIV_ADDRESS, register_address};
 ghost use Rattle.chip_words.specs.Bits.{has_bit, part_of};
-ghost use Rattle.chip_words.specs.Mpu.{MPULOCK as MPULOCK_BIT, Mpu, control_after, first_mpu, gives, mpu_at_reset, mpu_cause, mpu_flagged, mpu_touched, mpu_word, mpu_written, segment_at as segment_at_address, segment_right};
+ghost use Rattle.chip_words.specs.Map.{is_fram as is_in_fram};
+ghost use Rattle.chip_words.specs.Mpu.{MPUENA as MPUENA_BIT, MPULOCK as MPULOCK_BIT, Mpu, control_after, first_mpu, gives, mpu_at_reset, mpu_cause, mpu_flagged, mpu_touched, mpu_word, mpu_written, segment_at as segment_at_address, segment_right};
 ghost use Rattle.chip_words.specs.Segments.{border as border_of};
 ghost use Rattle.chip_words.specs.Sizes.{IsByteOrWord, span};
 ghost use Rattle.mpu_segments.specs.Notes.{IfReset, noted_of, vs_of};
@@ -200,6 +201,17 @@ impl MpuSegments {
         if (self.mpuctl0 >> MPUENA) & 1 == 0 || !is_fram(at) {
             return Right::Yes;
         }
+        self.judge(kind, at)
+    }
+
+    /// The right at an address of FRAM, while the unit is enabled. It stands apart so that its callers hold the test alone.
+    #[inline(never)]
+    #[tactic(auto, unfolding(chip_words::specs::Mpu::segment_right))]
+    fn judge(&self, kind: Kind, at: u32) -> Right
+        requires enabled { has_bit (self.now).mpuctl0 MPUENA_BIT ≡ true }
+        requires fram { is_in_fram at ≡ true }
+        ensures { result ≡ segment_right self.now kind at }
+    {
         let place = self.segment_at(at);
         if self.gives(kind, place) {
             Right::Yes
