@@ -11,7 +11,7 @@ use Rattle.chip_core.specs.FirstState.{first_state}
 use Rattle.chip_core.specs.Items.{items_of}
 use Rattle.chip_core.specs.Run.{AreSilent, IsSilent, chip_after}
 use Rattle.chip_core.specs.Tick.{ticked}
-use Rattle.chip_core.proofs.SilentTicks.{next_tick}
+use Rattle.chip_core.proofs.SilentTicks.{later, run_after}
 use Rattle.capsule.specs.Ticks.{text_of_ticks}
 use Rattle.capsule.specs.declared.runs.Report.{Report}
 use Rattle.capsule.specs.declared.runs.Report.TheVariants.{Trace, Releases}
@@ -54,24 +54,6 @@ module _ (tick_text : Stimulus → ℕ → State → List ℕ) where
   end_parts last end n bench first h =
       let e : end - n ≡ zero = omega arith in
       rw e (sym (append-nil last))
-
--- so many ticks behind others
-pub later : (n m : ℕ) (bench : Stimulus) (first : State) → chip_after n bench (chip_after m bench first) ≡ chip_after (m + n) bench first
-later zero m bench first = let e : m ≡ m + 0 = omega arith in ap (λ k. chip_after k bench first) e
-later (suc n) m bench first =
-    let e : suc (m + n) ≡ m + suc n = omega arith in
-    ap (ticked bench) (later n m bench first) ∙ ap (λ k. chip_after k bench first) e
-
--- so many ticks more of a run
-pub run_after : (n tick : ℕ) (bench : Stimulus) (first chip after : State) → chip ≡ chip_after tick bench first → after ≡ chip_after n bench chip → after ≡ chip_after (tick + n) bench first
-run_after n tick bench first chip after at is = is ∙ ap (chip_after n bench) at ∙ later n tick bench first
-
-pub run_tick : (n : ℕ) (bench : Stimulus) (chip : State) → (chip_after n bench chip).tick ≡ chip.tick + n
-run_tick zero bench chip = omega arith
-run_tick (suc n) bench chip =
-    let before = run_tick n bench chip in
-    let last = next_tick bench (chip_after n bench chip) (ticked bench (chip_after n bench chip)) refl in
-    omega arith
 
 -- what silent ticks add
 

@@ -8,3 +8,4 @@ pub mod SamePins
 pub mod SilentTicks
 pub mod StepEnds
 pub mod Told
+pub mod Waits

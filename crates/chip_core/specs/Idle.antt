@@ -1,7 +1,8 @@
 -- Ticks in which power stays on and no event comes, and among them those in which the processor waits.
-use Rattle.std.specs.Prelude.{◌≡◌, ◌&&◌, ◌||◌, ◌++◌, not, Bool, false, List, is_none, nat_lt}
+use Rattle.std.specs.Prelude.{◌≡◌, ◌+◌, ◌-◌, ◌&&◌, ◌||◌, ◌++◌, ℕ, not, Bool, true, false, List, is_none, nat_lt}
 use Rattle.dma_unit.specs.Transfers.{is_quiet as is_dma_quiet}
 use Rattle.power_schedule.specs.declared.powers.Power.TheVariants.{On}
+use Rattle.timer_unit.specs.Edges.{some_counts}
 use Rattle.trace_print.specs.declared.items.TraceItem.{TraceItem}
 use Rattle.trace_print.specs.declared.releases.Item.{Item}
 use Rattle.chip_core.specs.Items.{stages_items}
@@ -18,6 +19,14 @@ is_undisturbed chip =
     && not chip.second_tick
     && is_dma_quiet ((chip.bus).units).dma
     && is_none (taken_cause chip)
+
+-- nothing acts but the processor: no timer counts either, whichever clock has an edge
+abbrev pub is_alone : State → Bool
+is_alone chip = is_undisturbed chip && not (some_counts ((chip.bus).units).timers true true)
+
+-- the chip behind so many ticks in which a processor that acts alone is busy
+abbrev pub waited : ℕ → State → State
+waited n chip = record chip { busy = chip.busy - n; tick = chip.tick + n }
 
 -- a processor that isn't busy makes no step: it was halted, or there was no reset vector, or it is off and accepts no
 -- interrupt

@@ -170,17 +170,12 @@ impl Chip {
         }
     }
 
-    /// A tick up to which those from the next one on are plain: the first that isn't, where no later one is known.
-    #[inline(always)]
-    pub(crate) fn plain_until(&self, known: u32, bench: &Bench) -> u32
-        requires { IsPlainWithin (self.now).tick known bench.now }
+    /// The first tick from the next one on that isn't plain, or one before it up to which all are.
+    #[inline(never)]
+    pub(crate) fn next_plain(&self, bench: &Bench) -> u32
         ensures plain { IsPlainWithin (self.now).tick result bench.now }
     {
-        if self.tick < known {
-            known
-        } else {
-            bench.plain_until(self.tick, self.events_done)
-        }
+        bench.plain_until(self.tick, self.events_done)
     }
 
     /// Does the next tick, which is plain.
@@ -213,7 +208,7 @@ impl Chip {
     /// Mostly it is busy with the cycles of its instruction, or sleeps, or makes a step in public phase.
     #[inline(always)]
     #[tactic(auto, using(crate::proofs::IdleTicks::public_items))]
-    fn finish_undisturbed(&mut self, lines: &mut Lines, items: &mut Items)
+    pub(crate) fn finish_undisturbed(&mut self, lines: &mut Lines, items: &mut Items)
         requires undisturbed { is_undisturbed self.old ≡ true }
         requires no_line { lines.old.items ≡ [] }
         requires no_item { items.old.items ≡ [] }

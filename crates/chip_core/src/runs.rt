@@ -1,10 +1,15 @@
 //! Many ticks in one call.
 
-ghost use Rattle.std.specs.Prelude.{◌≡◌, ◌+◌, ◌-◌, ◌<◌, ◌≤◌, All};
+ghost use Rattle.std.specs.Prelude.{◌≡◌, ◌+◌, ◌-◌, ◌<◌, ◌≤◌, All, [], min, true};
+ghost use Rattle.bus_fabric.specs.Fabric.{tick_ended};
+ghost use Rattle.power_schedule.specs.declared.powers.Power.TheVariants.{On};
+ghost use Rattle.stimulus.specs.Stimulus.{IsPlainWithin};
 ghost use Rattle.trace_print.specs.Lines.{IsPrintable};
+ghost use Rattle.chip_core.specs.Idle.{given_from, is_alone, shown_from, waited};
 ghost use Rattle.chip_core.specs.Items.{IsItem, items_of};
 ghost use Rattle.chip_core.specs.Lines.{lines_of};
 ghost use Rattle.chip_core.specs.Run.{AreSilent, IsTold, chip_after};
+ghost use Rattle.chip_core.specs.Tick.{behind_tick, stages_from};
 
 use crate::chips::Chip;
 use crate::{Items, Lines};
@@ -29,17 +34,96 @@ impl Chip {
         ensures printable { All IsPrintable lines.new.items }
         ensures given { All IsItem items.new.items }
     {
-        lines.clear();
-        items.clear();
-        let mut done = 0;
+        self.tick(bench, lines, items);
+        let mut done = 1;
         let mut until = self.tick;
-        loop {
-            until = self.plain_until(until, bench);
-            self.tick_until(until, bench, lines, items);
-            done += 1;
-            if self.tick == end || !lines.is_empty() || !items.is_empty() {
-                return done;
-            }
+        while self.tick != end && lines.is_empty() && items.is_empty() {
+            until = self.plain_until(until, end, bench);
+            done += self.advance(until, bench, lines, items);
         }
+        done
+    }
+
+    /// A tick, not behind `end`, up to which those from the next one on are plain: that in `known`, where it is later.
+    #[inline(always)]
+    fn plain_until(&self, known: u32, end: u32, bench: &Bench) -> u32
+        requires known { IsPlainWithin (self.now).tick known bench.now }
+        requires before { known ≤ end }
+        ensures plain { IsPlainWithin (self.now).tick result bench.now }
+        ensures within { result ≤ end }
+    {
+        if self.tick < known {
+            known
+        } else {
+            self.next_plain(bench).min(end)
+        }
+    }
+
+    /// Does the next tick, and before it those in which a processor that acts alone is busy, and says how many they are.
+    /// Those from the next one on are plain up to `until`.
+    #[inline(always)]
+    fn advance(&mut self, until: u32, bench: &Bench, lines: &mut Lines, items: &mut Items) -> u32
+        requires tick { (self.old).tick < 10000000 }
+        requires most { until ≤ 10000000 }
+        requires plain { IsPlainWithin (self.old).tick until bench.now }
+        requires ended { tick_ended (self.old).bus ≡ (self.old).bus }
+        requires no_line { lines.old.items ≡ [] }
+        requires no_item { items.old.items ≡ [] }
+        ensures some { 1 ≤ result }
+        ensures within { 1 < result → (self.old).tick + result ≤ until }
+        ensures silent { AreSilent (result - 1) bench.now self.old }
+        ensures chip { self.new ≡ chip_after result bench.now self.old }
+        ensures lines { lines.new.items ≡ lines_of bench.now (chip_after (result - 1) bench.now self.old) }
+        ensures items { items.new.items ≡ items_of bench.now (chip_after (result - 1) bench.now self.old) }
+        ensures printable { All IsPrintable lines.new.items }
+        ensures given { All IsItem items.new.items }
+    {
+        if !self.powered || until <= self.tick || !self.is_alone() {
+            self.tick_until(until, bench, lines, items);
+            return 1;
+        }
+        let waits = self.wait(until - 1);
+        self.tick_alone(lines, items);
+        waits + 1
+    }
+
+    /// Says whether nothing acts but the processor.
+    #[inline(always)]
+    fn is_alone(&self) -> bool
+        ensures { result ≡ is_alone self.now }
+    {
+        self.is_undisturbed() && !self.fabric.counts(true, true)
+    }
+
+    /// Lets the ticks go by in which the processor is busy, but none from the tick `end` on, and says how many they are.
+    #[inline(always)]
+    fn wait(&mut self, end: u32) -> u32
+        requires { (self.old).tick ≤ end }
+        ensures count { result ≡ min (self.old).busy (end - (self.old).tick) }
+        ensures chip { self.new ≡ waited result self.old }
+    {
+        let waits = self.busy.min(u64::from(end - self.tick));
+        self.busy -= waits;
+        self.tick += waits as u32;
+        waits as u32
+    }
+
+    /// Does the next tick, in which the processor owns the bus and no reset is due, and no timer counts.
+    #[inline(always)]
+    fn tick_alone(&mut self, lines: &mut Lines, items: &mut Items)
+        requires tick { (self.old).tick < 10000000 }
+        requires alone { is_alone self.old ≡ true }
+        requires no_line { lines.old.items ≡ [] }
+        requires no_item { items.old.items ≡ [] }
+        ensures chip { self.new ≡ behind_tick (self.old).tick (stages_from On self.old).after }
+        ensures lines { lines.new.items ≡ shown_from self.old }
+        ensures items { items.new.items ≡ given_from self.old }
+        ensures printable { All IsPrintable lines.new.items }
+        ensures given { All IsItem items.new.items }
+    {
+        let next = self.tick + 1;
+        self.finish_undisturbed(lines, items);
+        self.fabric.end_tick();
+        self.tick = next;
     }
 }

@@ -4,7 +4,7 @@ use Rattle.chip_words.specs.declared.fired.Fired.{Fired}
 use Rattle.chip_words.specs.Timer.{Timer, counts, moves, timer_ticked}
 use Rattle.chip_words.specs.Timers.{Timers, fired, timers_ticked, triggers_from}
 use Rattle.chip_words.specs.Bits.{has_bit}
-use Rattle.chip_words.specs.Watchdog.{WDTHOLD, counts as watchdog_counts, watchdog_ticked}
+use Rattle.chip_words.specs.Watchdog.{WDTHOLD, Watchdog, counts as watchdog_counts, watchdog_ticked}
 use Rattle.timer_unit.specs.Edges.{is_stopped, some_counts, some_runs}
 
 -- neither of two
@@ -69,3 +69,27 @@ nothing_runs timers smclk aclk none =
     let (rest, no_second) = neither (held || first) second rest in
     let (no_watchdog, no_first) = neither held first rest in
     rw (no_watchdog, no_first, no_second, no_third) refl
+
+-- what counts no edge where both clocks have one counts none elsewhere
+
+no_timer : (timer : Timer) (smclk aclk : Bool) → counts timer true true ≡ false → counts timer smclk aclk ≡ false
+no_timer timer true true none = none
+no_timer timer true false none = grind (arith, none)
+no_timer timer false true none = grind (arith, none)
+no_timer timer false false none = grind (arith, none)
+
+no_watchdog : (watchdog : Watchdog) (smclk aclk : Bool) → watchdog_counts watchdog true true ≡ false → watchdog_counts watchdog smclk aclk ≡ false
+no_watchdog watchdog true true none = none
+no_watchdog watchdog true false none = grind (arith, none)
+no_watchdog watchdog false true none = grind (arith, none)
+no_watchdog watchdog false false none = grind (arith, none)
+
+pub counts_never : (timers : Timers) (smclk aclk : Bool) → some_counts timers true true ≡ false → some_counts timers smclk aclk ≡ false
+counts_never timers smclk aclk none =
+    let is = still timers true true none in
+    rw (
+      no_watchdog timers.watchdog smclk aclk is.watchdog,
+      no_timer timers.ta0 smclk aclk is.ta0,
+      no_timer timers.ta1 smclk aclk is.ta1,
+      no_timer timers.tb0 smclk aclk is.tb0,
+    ) refl

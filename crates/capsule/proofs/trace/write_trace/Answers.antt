@@ -4,7 +4,8 @@ use Rattle.bench_io.proofs.Writing.{goes_on, stops_in}
 use Rattle.trace_print.specs.declared.items.TraceItem.TheVariants.{End}
 use Rattle.trace_print.specs.Lines.{line_of}
 use Rattle.capsule.specs.Trace.{text_of_lines, trace_tick}
-use Rattle.capsule.proofs.Texts.{end_parts, no_lines, run_after, run_parts, run_tick}
+use Rattle.capsule.proofs.Texts.{end_parts, no_lines, run_parts}
+use Rattle.chip_core.proofs.SilentTicks.{run_after, run_tick}
 use Rattle.capsule.proofs.trace.write_trace.Goals as goal
 
 pub returns-in-Err-clause-front : goal.returns-in-Err-clause-front

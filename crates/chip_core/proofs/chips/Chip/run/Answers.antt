@@ -1,36 +1,68 @@
-use Rattle.std.proofs.Common.{◌∙◌, ap, arith, sym}
-use Rattle.chip_core.proofs.SilentTicks.{are_none, chip_after_more, next_tick, silent_more, told_by_items, told_by_lines}
-use Rattle.chip_core.proofs.chips.Chip.run.Goals.{then-self-end-via-then-self-end, then-self-end-via-else-self-end+then-not-is_empty, then-self-end-via-else-self-end+else-not-is_empty+then-not-is_empty-2}
+use Rattle.std.proofs.Common.{◌≡◌, ◌∙◌, ◌+◌, ◌≤◌, [], ap, arith, inl, inr, sym}
+use Rattle.std.proofs.lemmas.Bool.{cases_lt}
+use Rattle.chip_core.specs.Items.{items_of}
+use Rattle.chip_core.specs.Lines.{lines_of}
+use Rattle.chip_core.proofs.SilentTicks.{are_none, ended_after, last_tick, next_tick, run_after, run_tick, silent_run}
 use Rattle.chip_core.proofs.chips.Chip.run.Goals as goal
 
-pub returns-then-self-end-clause-stop : goal.returns-then-self-end-clause-stop
-returns-then-self-end-clause-stop c = λ more.
-    let next = next_tick _ _ _ c.tick_until.ensures.chip in
-    let view = ap (λ chip. chip.tick) c.self-in-loop-self.view_is in
-    elim c.then-self-end.branch [
-      | then-self-end-via-then-self-end w ↦ absurd (omega (arith, more, next, view, w.if-self-end.true, c.loop-self.invariant.tick))
-      | then-self-end-via-else-self-end+then-not-is_empty w ↦ told_by_lines c.loop-self.done c.args.bench.now c.args.self.now _ _ c.loop-self.invariant.chip c.tick_until.ensures.lines (sym w.is_empty.ensures ∙ w.if-not-is_empty.true)
-      | then-self-end-via-else-self-end+else-not-is_empty+then-not-is_empty-2 w ↦ told_by_items c.loop-self.done c.args.bench.now c.args.self.now _ _ c.loop-self.invariant.chip c.tick_until.ensures.items (sym w.is_empty-else-not-is_empty.ensures ∙ w.if-not-is_empty-2.true)
-    ]
+pub loop-self-init : goal.loop-self-init
+loop-self-init c =
+    let next = next_tick _ _ _ c.tick.ensures.chip in
+    let view = ap (λ chip. chip.tick) c.self.view_is in
+    let some = c.requires.some in
+    record {
+      some = omega arith;
+      silent = λ k none. absurd (omega (arith, none));
+      chip = c.tick.ensures.chip;
+      lines = c.tick.ensures.lines;
+      items = c.tick.ensures.items;
+      printable = c.tick.ensures.printable;
+      given = c.tick.ensures.given;
+      tick = next;
+      within = omega (arith, next, some);
+      plain = λ tick from to. absurd (omega (arith, view, from, to));
+      before = omega (arith, view, next, some);
+    }
+
+pub advance-done-requires-clause-ended : goal.advance-done-requires-clause-ended
+advance-done-requires-clause-ended c =
+    ended_after c.loop-self.done c.args.bench.now c.args.self.now c.loop-self.self c.loop-self.invariant.some c.loop-self.invariant.chip
+
+-- the ticks go by
+ticks : (c : goal.After-advance-done) → (c.advance-done.new.self).tick ≡ (c.loop-self.self).tick + c.advance-done.result
+ticks c = ap (λ chip. chip.tick) c.advance-done.ensures.chip ∙ run_tick c.advance-done.result c.args.bench.now c.loop-self.self
 
 pub loop-self-smaller : goal.loop-self-smaller
 loop-self-smaller c =
-    let next = next_tick _ _ _ c.tick_until.ensures.chip in
-    let more = c.loop-self.invariant.more in
-    omega arith
+    let view = ap (λ chip. chip.tick) c.self-in-loop-self.view_is in
+    omega (arith, ticks c, view, c.loop-self-test.true, c.loop-self.invariant.within, c.advance-done.ensures.some)
 
 pub loop-self-preserved : goal.loop-self-preserved
 loop-self-preserved c =
-    let next = next_tick _ _ _ c.tick_until.ensures.chip in
     let view = ap (λ chip. chip.tick) c.self-in-loop-self.view_is in
-    let no_line = are_none c.tick_until.new.lines.items (sym c.is_empty.ensures ∙ c.if-not-is_empty.false) in
-    let no_item = are_none c.tick_until.new.items.items (sym c.is_empty-else-not-is_empty.ensures ∙ c.if-not-is_empty-2.false) in
+    let before = c.plain_until-until.ensures.within in
+    let some = c.advance-done.ensures.some in
+    let no_line : c.loop-self.lines.items ≡ [] = are_none c.loop-self.lines.items (sym c.is_empty.ensures ∙ c.if-is_empty.true) in
+    let no_item : c.loop-self.items.items ≡ [] = are_none c.loop-self.items.items (sym c.is_empty-then-is_empty.ensures ∙ c.if-is_empty-2.true) in
+    let last = last_tick c.advance-done.result c.loop-self.done c.args.bench.now c.args.self.now c.loop-self.self some c.loop-self.invariant.chip in
+    let within : (c.loop-self.self).tick + c.advance-done.result ≤ c.args.end = elim (cases_lt 1 c.advance-done.result) [
+      | inl many ↦ let most = c.advance-done.ensures.within many in omega (arith, most, before)
+      | inr one ↦ omega (arith, one, view, c.loop-self-test.true, c.loop-self.invariant.within)
+    ] in
     record {
-      silent = silent_more c.loop-self.done c.args.bench.now c.args.self.now _ c.loop-self.invariant.chip (record { lines = sym c.tick_until.ensures.lines ∙ no_line; items = sym c.tick_until.ensures.items ∙ no_item }) c.loop-self.invariant.silent;
-      chip = chip_after_more c.loop-self.done c.args.bench.now c.args.self.now _ _ c.loop-self.invariant.chip c.tick_until.ensures.chip;
-      tick = omega (arith, next, c.loop-self.invariant.tick);
-      plain = λ tick from to. c.plain_until-until.ensures.plain tick (omega (arith, next, from)) to;
-      more = omega (arith, next, view, c.loop-self.invariant.more, c.if-self-end.false);
-      no_line = no_line;
-      no_item = no_item;
+      some = omega (arith, some);
+      silent =
+          silent_run c.advance-done.result c.loop-self.done c.args.bench.now c.args.self.now c.loop-self.self some c.loop-self.invariant.some c.loop-self.invariant.chip
+          c.loop-self.invariant.silent
+          (record { lines = sym c.loop-self.invariant.lines ∙ no_line; items = sym c.loop-self.invariant.items ∙ no_item })
+          c.advance-done.ensures.silent;
+      chip = run_after c.advance-done.result c.loop-self.done c.args.bench.now c.args.self.now c.loop-self.self _ c.loop-self.invariant.chip c.advance-done.ensures.chip;
+      lines = c.advance-done.ensures.lines ∙ ap (lines_of c.args.bench.now) last;
+      items = c.advance-done.ensures.items ∙ ap (items_of c.args.bench.now) last;
+      printable = c.advance-done.ensures.printable;
+      given = c.advance-done.ensures.given;
+      tick = omega (arith, ticks c, c.loop-self.invariant.tick);
+      within = omega (arith, ticks c, within);
+      plain = λ tick from to. c.plain_until-until.ensures.plain tick (omega (arith, ticks c, from)) to;
+      before = before;
     }
