@@ -193,6 +193,7 @@ impl MpuSegments {
 
     /// The right of an access by the segments: where ENA is set, an address of FRAM is judged by its
     /// segment.
+    #[inline(always)]
     #[tactic(auto, unfolding(chip_words::specs::Mpu::segment_right))]
     pub fn right(&self, kind: Kind, at: u32) -> Right
         requires { at < 0x100000 }
