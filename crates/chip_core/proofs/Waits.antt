@@ -1,8 +1,7 @@
 -- A processor that acts alone and is busy waits: such a tick has no line and no item, and changes nothing but how long the
 -- processor is busy. So do many at once.
-use Rattle.std.proofs.Common.{◌≡◌, ◌∙◌, ℕ, zero, suc, ◌+◌, ◌-◌, ◌<◌, ◌≤◌, min, true, nat_lt, List, [], refl, sym, ap, subst, arith}
+use Rattle.std.proofs.Common.{◌≡◌, ◌∙◌, ℕ, zero, suc, ◌+◌, ◌-◌, ◌<◌, ◌≤◌, true, nat_lt, List, [], refl, sym, ap, subst, arith}
 use Rattle.std.specs.Prelude.{None}
-use Rattle.std.proofs.Math.Nat.{min-le_left, min-le_right}
 use Rattle.std.proofs.lemmas.Bool.{and_parts}
 use Rattle.std.proofs.lemmas.Bool.Decides.{nat_tests}
 use Rattle.bus_fabric.proofs.StillClocks.{still_clocks}
@@ -133,15 +132,12 @@ pub record IsAdvanced (n : ℕ) (bench : Stimulus) (chip after : State) (lines :
 
 pub advanced :
     (n until : ℕ) (bench : Stimulus) (chip waiting after : State) (lines : List TraceItem) (items : List Item) → IsAlone until bench chip →
-    n ≡ min chip.busy (until - 1 - chip.tick) → waiting ≡ waited n chip →
+    n ≤ chip.busy → chip.tick + n ≤ until - 1 → waiting ≡ waited n chip →
     after ≡ behind_tick waiting.tick (stages_from On waiting).after → lines ≡ shown_from waiting → items ≡ given_from waiting →
     IsAdvanced n bench chip after lines items
-advanced n until bench chip waiting after lines items is count waits_so ticks_so shows gives =
-    let busy = min-le_left chip.busy (until - 1 - chip.tick) in
-    let left = min-le_right chip.busy (until - 1 - chip.tick) in
+advanced n until bench chip waiting after lines items is few most waits_so ticks_so shows gives =
     let before = is.before in
-    let within : chip.tick + n < until = omega (arith, count, left, before) in
-    let few : n ≤ chip.busy = omega (arith, count, busy) in
+    let within : chip.tick + n < until = omega (arith, most, before) in
     let there = waits n until bench chip is few (omega (arith, within)) in
     let last = turn until bench (waited n chip) (still_alone n until bench chip is within) in
     let number : n ≡ n + 1 - 1 = omega arith in

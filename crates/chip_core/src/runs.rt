@@ -1,6 +1,6 @@
 //! Many ticks in one call.
 
-ghost use Rattle.std.specs.Prelude.{◌≡◌, ◌+◌, ◌-◌, ◌<◌, ◌≤◌, All, [], min, true};
+ghost use Rattle.std.specs.Prelude.{◌≡◌, ◌+◌, ◌-◌, ◌<◌, ◌≤◌, ◌⊎◌, All, [], true};
 ghost use Rattle.bus_fabric.specs.Fabric.{tick_ended};
 ghost use Rattle.power_schedule.specs.declared.powers.Power.TheVariants.{On};
 ghost use Rattle.stimulus.specs.Stimulus.{IsPlainWithin};
@@ -92,20 +92,29 @@ impl Chip {
     fn is_alone(&self) -> bool
         ensures { result ≡ is_alone self.now }
     {
-        self.is_undisturbed() && !self.fabric.counts(true, true)
+        !self.fabric.counts(true, true) && self.is_undisturbed()
     }
 
     /// Lets the ticks go by in which the processor is busy, but none from the tick `end` on, and says how many they are.
     #[inline(always)]
     fn wait(&mut self, end: u32) -> u32
         requires { (self.old).tick ≤ end }
-        ensures count { result ≡ min (self.old).busy (end - (self.old).tick) }
+        ensures busy { result ≤ (self.old).busy }
+        ensures within { (self.old).tick + result ≤ end }
+        ensures whole { (result ≡ (self.old).busy) ⊎ ((self.old).tick + result ≡ end) }
         ensures chip { self.new ≡ waited result self.old }
     {
-        let waits = self.busy.min(u64::from(end - self.tick));
-        self.busy -= waits;
-        self.tick += waits as u32;
-        waits as u32
+        let left = end - self.tick;
+        if self.busy <= u64::from(left) {
+            let waits = self.busy as u32;
+            self.busy = 0;
+            self.tick += waits;
+            waits
+        } else {
+            self.busy -= u64::from(left);
+            self.tick = end;
+            left
+        }
     }
 
     /// Does the next tick, in which the processor owns the bus and no reset is due, and no timer counts.

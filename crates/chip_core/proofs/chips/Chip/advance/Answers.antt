@@ -13,7 +13,7 @@ is_advanced c =
       before = omega (arith, tick, c.if-until-self.false);
       plain = c.requires.plain;
     } in
-    advanced c.wait-waits.result c.args.until c.args.bench.now c.args.self.now _ _ _ _ is c.wait-waits.ensures.count c.wait-waits.ensures.chip c.tick_alone.ensures.chip c.tick_alone.ensures.lines c.tick_alone.ensures.items
+    advanced c.wait-waits.result c.args.until c.args.bench.now c.args.self.now _ _ _ _ is c.wait-waits.ensures.busy c.wait-waits.ensures.within c.wait-waits.ensures.chip c.tick_alone.ensures.chip c.tick_alone.ensures.lines c.tick_alone.ensures.items
 
 pub returns-clause-silent : goal.returns-clause-silent
 returns-clause-silent c = (is_advanced c).silent
