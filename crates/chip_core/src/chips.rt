@@ -139,7 +139,7 @@ impl Chip {
     {
         lines.clear();
         items.clear();
-        let until = bench.plain_until(self.tick, self.events_done);
+        let until = self.next_plain(bench);
         self.tick_until(until, bench, lines, items);
     }
 
@@ -170,7 +170,7 @@ impl Chip {
         }
     }
 
-    /// The first tick from the next one on that isn't plain, or one before it up to which all are.
+    /// A tick up to which those from the next one on are plain: the first that isn't.
     #[inline(never)]
     pub(crate) fn next_plain(&self, bench: &Bench) -> u32
         ensures plain { IsPlainWithin (self.now).tick result bench.now }
